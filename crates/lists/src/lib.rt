@@ -1,0 +1,1 @@
+// Definitions and laws about lists; no code of its own.

@@ -1,0 +1,75 @@
+-- Laws of checks and of what they leave in a lent list. Assumes nothing.
+use Prim.Native.Nat.{ℕ}
+use mathlib.Core.Path.{_≡_, refl, sym, _∙_, subst}
+use mathlib.Core.Bool.{Bool, true, false}
+use mathlib.Core.List.{List}
+use lib.Dec.{T}
+use Rattle.lists.specs.UpTo.{overlay}
+use Rattle.refusals.specs.Refusals.{_orElse_, isRefused, refuseUnless, writtenIf, leftIn}
+use Rattle.refusals.specs.declared.Refusal.{Refusal}
+use Rattle.refusals.specs.declared.Checked.{Checked}
+use Rattle.refusals.specs.declared.Checked.the-variants.{Accepted, Refused}
+use Rattle.refusals.specs.declared.Written.the-variants as Written
+
+pub orElse-refused : (a c : Checked) → isRefused a ≡ true → a orElse c ≡ a
+unfolding _orElse_ isRefused
+orElse-refused Accepted c h = absurd (subst T (sym h) tt)
+orElse-refused (Refused cause) c h = refl
+
+pub passed : (a : Checked) → isRefused a ≡ false → a ≡ Accepted
+unfolding isRefused
+passed Accepted h = refl
+passed (Refused cause) h = absurd (subst T h tt)
+
+pub accepted-first : (c : Checked) → Accepted orElse c ≡ c
+unfolding _orElse_
+accepted-first c = refl
+
+pub orElse-accepted : (a c : Checked) → a orElse c ≡ Accepted → (a ≡ Accepted) × (c ≡ Accepted)
+unfolding _orElse_ isRefused
+orElse-accepted Accepted c h = (refl, h)
+orElse-accepted (Refused cause) c h = absurd (subst (λ (x : Checked). T (isRefused x)) h tt)
+
+pub test-held : (t : Bool) (cause : Refusal) → refuseUnless t cause ≡ Accepted → t ≡ true
+unfolding refuseUnless isRefused
+test-held true cause h = refl
+test-held false cause h = absurd (subst (λ (x : Checked). T (isRefused x)) h tt)
+
+pub held : (t : Bool) (cause : Refusal) → t ≡ true → refuseUnless t cause ≡ Accepted
+unfolding refuseUnless
+held t cause h = rw h
+
+pub failed : (t : Bool) (cause : Refusal) → t ≡ false → refuseUnless t cause ≡ Refused cause
+unfolding refuseUnless
+failed t cause h = rw h
+
+-- an answer r that is a's: the whole check ends with it, or goes on with what is left
+pub stopped : {r a : Checked} (x : Checked) → r ≡ a → isRefused r ≡ true → r ≡ a orElse x
+stopped x e h = rw (← e) (sym (orElse-refused _ x h))
+
+pub went-on : {r a y x : Checked} → r ≡ a → isRefused r ≡ false → y ≡ x → y ≡ a orElse x
+went-on {r} {a} {y} {x} e h p =
+    let q : a ≡ Accepted = sym e ∙ passed r h in
+    rw (q, accepted-first) p
+
+-- what is left in a lent list, and what is answered, where the check passed and where it refused
+pub left-written : {A : Type 0} {c : Checked} (xs ys : List A) → c ≡ Accepted → leftIn c xs ys ≡ overlay xs ys
+unfolding leftIn
+left-written xs ys e = rw e
+
+pub left-alone : {A : Type 0} {c : Checked} {cause : Refusal} (xs ys : List A) → c ≡ Refused cause → leftIn c xs ys ≡ ys
+unfolding leftIn
+left-alone xs ys e = rw e
+
+pub left-refused : {A : Type 0} (c : Checked) (xs ys : List A) → isRefused c ≡ true → leftIn c xs ys ≡ ys
+unfolding leftIn isRefused
+left-refused Accepted xs ys h = absurd (subst T (sym h) tt)
+left-refused (Refused cause) xs ys h = refl
+
+pub count-written : {c : Checked} (n : ℕ) → c ≡ Accepted → writtenIf c n ≡ Written.Count n
+unfolding writtenIf
+count-written n e = rw e
+
+pub count-refused : {c : Checked} {cause : Refusal} (n : ℕ) → c ≡ Refused cause → writtenIf c n ≡ Written.Refused cause
+unfolding writtenIf
+count-refused n e = rw e

@@ -1,0 +1,87 @@
+-- Document 01, 'Causes turned away': the number and the returned value of each cause, and how checks are joined.
+use Prim.Native.Nat.{ℕ}
+use mathlib.Core.Bool.{Bool, true, false}
+use mathlib.Core.List.{List}
+use Rattle.lists.specs.UpTo.{overlay}
+use Rattle.refusals.specs.declared.Refusal.{Refusal}
+use Rattle.refusals.specs.declared.Refusal.the-variants.{CountTooLarge, RecordsLength, BadRecord, NoSuchBus, EqualEnds, SolutionLength, PastEnd, PiecewiseCost, NotInSocWr, OutputTooShort, ModeAuto, BadLists, InputTooLong}
+use Rattle.refusals.specs.declared.Checked.{Checked}
+use Rattle.refusals.specs.declared.Checked.the-variants.{Accepted, Refused}
+use Rattle.refusals.specs.declared.Written.{Written}
+use Rattle.refusals.specs.declared.Written.the-variants as Written
+
+-- the table's column 'number'
+abbrev pub numberOf : Refusal → ℕ
+numberOf (CountTooLarge which) = 1
+numberOf (RecordsLength length) = 2
+numberOf (BadRecord r) = 3
+numberOf (NoSuchBus r) = 4
+numberOf (EqualEnds r) = 5
+numberOf (SolutionLength list) = 6
+numberOf (PastEnd index) = 7
+numberOf (PiecewiseCost id) = 8
+numberOf NotInSocWr = 9
+numberOf (OutputTooShort need) = 10
+numberOf ModeAuto = 11
+numberOf BadLists = 12
+numberOf InputTooLong = 13
+
+-- the table's column 'returned'
+abbrev pub valueOf : Refusal → ℕ
+valueOf (CountTooLarge which) = which
+valueOf (RecordsLength length) = length
+valueOf (BadRecord r) = r
+valueOf (NoSuchBus r) = r
+valueOf (EqualEnds r) = r
+valueOf (SolutionLength list) = list
+valueOf (PastEnd index) = index
+valueOf (PiecewiseCost id) = id
+valueOf NotInSocWr = 0
+valueOf (OutputTooShort need) = need
+valueOf ModeAuto = 0
+valueOf BadLists = 0
+valueOf InputTooLong = 512
+
+-- ---- checks
+-- "refuses .. by the first in this order": the first of two answers that refuses
+infixr 20 _orElse_
+unfoldable pub _orElse_ : Checked → Checked → Checked
+_orElse_ Accepted c = c
+_orElse_ (Refused cause) c = Refused cause
+
+unfoldable pub isRefused : Checked → Bool
+isRefused Accepted = false
+isRefused (Refused cause) = true
+
+-- passed where the test holds, and else refused for that cause
+unfoldable pub refuseUnless : Bool → Refusal → Checked
+refuseUnless true cause = Accepted
+refuseUnless false cause = Refused cause
+
+-- the number and the value of a check's answer; 0 and 0 where it accepts
+abbrev pub checkedNumber : Checked → ℕ
+checkedNumber Accepted = 0
+checkedNumber (Refused cause) = numberOf cause
+
+abbrev pub checkedValue : Checked → ℕ
+checkedValue Accepted = 0
+checkedValue (Refused cause) = valueOf cause
+
+-- ---- answers of an entry that writes
+unfoldable pub writtenIf : Checked → ℕ → Written
+writtenIf Accepted n = Written.Count n
+writtenIf (Refused cause) n = Written.Refused cause
+
+-- the number and the value of such an answer: 0 and the count, or the cause's
+abbrev pub writtenNumber : Written → ℕ
+writtenNumber (Written.Count n) = 0
+writtenNumber (Written.Refused cause) = numberOf cause
+
+abbrev pub writtenValue : Written → ℕ
+writtenValue (Written.Count n) = n
+writtenValue (Written.Refused cause) = valueOf cause
+
+-- "left as it was", and "output past the length needed is unchanged": what a lent list holds after xs was to be written to its front
+unfoldable pub leftIn : {A : Type 0} → Checked → List A → List A → List A
+leftIn Accepted xs ys = overlay xs ys
+leftIn (Refused cause) xs ys = ys
