@@ -1,1 +1,2 @@
-// Definitions and laws about lists; no code of its own.
+// Lists that a caller lends: definitions, laws, and stores.
+pub mod inner;
