@@ -2,3 +2,4 @@ pub mod Tallies
 pub mod Layouts
 pub mod Points
 pub mod Names
+pub mod Entered

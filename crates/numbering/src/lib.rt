@@ -2,6 +2,7 @@
 use refusals::Refusal;
 
 pub mod inner;
+pub mod layout;
 
 // A point of a row of things that have several points each: the thing, and the place in it.
 pub struct Place {
