@@ -3,3 +3,4 @@ pub mod Layouts
 pub mod Points
 pub mod Names
 pub mod Entered
+pub mod Asked

@@ -71,7 +71,7 @@ sizeIn l p = afterCheck (layoutCause l) (Lookup.Number p)
 -- ---- numbers on counts and records: the record check, then 7. "A lookup with the index of a branch without limit, or of a generator
 -- without cost column, answers None. With a cost column, a segment not below its generator's count is 7 and returns the segment; the
 -- generator's index is tested first." A block that there is none of is 7 too, before the index.
-abbrev pub asked : List Block → Bool → Key → Lookup
+unfoldable pub asked : List Block → Bool → Key → Lookup
 asked bs has x =
     pickLookup (ltb (x .block) (length bs))
     (pickLookup (ltb (x .item) (records (blockAt bs (x .block))))

@@ -2,7 +2,9 @@
 use refusals::Refusal;
 
 pub mod inner;
+pub mod keys;
 pub mod layout;
+pub mod lookups;
 
 // A point of a row of things that have several points each: the thing, and the place in it.
 pub struct Place {
