@@ -4,3 +4,5 @@ pub mod Points
 pub mod Names
 pub mod Entered
 pub mod Asked
+pub mod Standing
+pub mod Answers

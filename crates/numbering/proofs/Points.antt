@@ -82,7 +82,7 @@ start-up B i = omega (arith, start-next B i)
 before-up : (bs : List Block) (b : ℕ) → before bs b ≤ before bs (suc b)
 before-up bs b = omega (arith, before-next bs b)
 
-among : (bs : List Block) (b i : ℕ) → i < records (blockAt bs b) → b < length bs
+pub among : (bs : List Block) (b i : ℕ) → i < records (blockAt bs b) → b < length bs
 among [] b i h = absurd (omega arith)
 among (B ∷ bs) zero i h = omega arith
 among (B ∷ bs) (suc b) i h = omega (arith, among bs b i h)
