@@ -1,1 +1,2 @@
-// Definitions and laws about lists; no code of its own.
+// Definitions and laws about lists, and the copies that the crates above share.
+pub mod inner;
