@@ -1,0 +1,5 @@
+pub mod Bytes
+pub mod Fields
+pub mod AcNetwork
+pub mod Network
+pub mod Check
