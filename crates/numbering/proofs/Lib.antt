@@ -6,3 +6,4 @@ pub mod Entered
 pub mod Asked
 pub mod Standing
 pub mod Answers
+pub mod ConeLengths
