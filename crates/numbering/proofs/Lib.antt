@@ -7,3 +7,4 @@ pub mod Asked
 pub mod Standing
 pub mod Answers
 pub mod ConeLengths
+pub mod Theorem
