@@ -1,7 +1,8 @@
 //! A sample of the oracle's answers, in the format of docs/VECTORS.md.
 
-use crate::keep_lists;
-use crate::keep_networks;
+#[cfg(part = "combination")]
+use crate::combination;
+use crate::records;
 
 /// Words of 64 bits, little-endian.
 #[derive(Default)]
@@ -32,9 +33,23 @@ fn head() -> String {
 pub fn write(path: &str) {
     let mut words = Words::default();
     words.bytes(head().as_bytes());
-    let (networks, answers) = keep_networks::write(&mut words);
-    let lists = keep_lists::write(&mut words);
+    let mut counts = records::keep(&mut words);
+    #[cfg(part = "combination")]
+    counts.add(combination::keep(&mut words));
     words.word(0);
     std::fs::write(path, &words.0).expect("the file can be written");
-    println!("{path}: {} cases, {} answers, {} bytes", networks + lists, answers + lists, words.0.len());
+    println!("{path}: {} cases, {} answers, {} bytes", counts.cases, counts.answers, words.0.len());
+}
+
+/// How much was kept.
+pub struct Counts {
+    pub cases: u64,
+    pub answers: u64,
+}
+
+impl Counts {
+    pub fn add(&mut self, more: Counts) {
+        self.cases += more.cases;
+        self.answers += more.answers;
+    }
 }

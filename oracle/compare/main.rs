@@ -1,29 +1,27 @@
 //! Compares the C entries of the static library with the oracle, bit for bit.
 //! With `--keep FILE` it writes a sample of the oracle's answers instead.
+//! A part of the entries is compared where it is listed in oracle/parts.
+#![cfg_attr(not(part = "combination"), allow(dead_code, unused_mut))]
 
-mod combine;
-mod damage;
-mod expect;
-mod ground;
+#[cfg(part = "combination")]
+mod combination;
 mod keep;
-mod keep_lists;
-mod keep_networks;
-mod largest;
 mod lent;
-mod lists;
-mod matrix;
-mod network;
-mod numbering;
 mod outcome;
 mod random;
+mod records;
 mod report;
-mod residual;
-mod scale;
-mod selector;
-mod shapes;
 mod sums;
-mod transpose;
-mod wanted;
+
+/// Prints the lines of some subjects; whether nothing differs.
+type Part = fn() -> bool;
+
+fn parts() -> Vec<Part> {
+    let mut all: Vec<Part> = vec![sums::compare, records::compare];
+    #[cfg(part = "combination")]
+    all.extend(combination::PARTS);
+    all
+}
 
 fn main() {
     let words: Vec<String> = std::env::args().skip(1).collect();
@@ -33,12 +31,8 @@ fn main() {
         }
     }
     println!("the oracle was built by {}", env!("ORACLE_RUSTC"));
-    let parts = [
-        sums::compare, ground::compare, scale::compare, selector::compare, largest::compare,
-        residual::compare, transpose::compare, matrix::compare, combine::compare,
-    ];
     // A subject prints its line whatever the earlier ones found.
-    let right = parts.iter().fold(true, |right, part| part() && right);
+    let right = parts().iter().fold(true, |right, part| part() && right);
     if !right {
         println!("the comparison found a difference");
         std::process::exit(1);

@@ -63,6 +63,9 @@ const SPECIAL: [f64; 14] = [
     f64::MIN_POSITIVE, f64::MAX, f64::MIN, std::f64::consts::PI,
 ];
 
+/// Past every end.
+pub const EXTREMES: [u64; 7] = [1 << 16, u32::MAX as u64, 1 << 32, (1 << 32) + 1, 1 << 63, u64::MAX - 1, u64::MAX];
+
 /// Equal bits, or both no number.
 pub fn same(a: f64, b: f64) -> bool {
     a.to_bits() == b.to_bits() || (a.is_nan() && b.is_nan())

@@ -1,4 +1,4 @@
-//! The C entries of the static library, on slices.
+//! The C entries of the static library, on slices. Each is inlined, so that a program links only those it calls.
 
 mod declared;
 
@@ -21,38 +21,47 @@ macro_rules! on {
     }};
 }
 
+#[inline]
 pub fn check_records(net: Net) -> Answer {
     on!(socwr_check_records, net)
 }
 
+#[inline]
 pub fn layout_new(net: Net) -> Sizes {
     on!(socwr_layout_new, net)
 }
 
+#[inline]
 pub fn column_number(net: Net, block: u64, index: u64) -> Answer {
     on!(socwr_column_number, net, block, index)
 }
 
+#[inline]
 pub fn row_number(net: Net, block: u64, index: u64, place: u64) -> Answer {
     on!(socwr_row_number, net, block, index, place)
 }
 
+#[inline]
 pub fn column_name(net: Net, number: u64) -> Name {
     on!(socwr_column_name, net, number)
 }
 
+#[inline]
 pub fn row_name(net: Net, number: u64) -> Name {
     on!(socwr_row_name, net, number)
 }
 
+#[inline]
 pub fn cones(net: Net, lengths: &mut [u32]) -> Answer {
     on!(socwr_cones, net, lengths.as_mut_ptr(), lengths.len() as u64)
 }
 
+#[inline]
 pub fn unit_scale(operand: u64, parameter: u64, base: f64) -> Scalar {
     unsafe { socwr_unit_scale(operand, parameter, base) }
 }
 
+#[inline]
 pub fn max_abs(matrix: &[f64]) -> Scalar {
     unsafe { socwr_max_abs(matrix.as_ptr(), matrix.len() as u64) }
 }
@@ -67,22 +76,27 @@ macro_rules! lent {
     };
 }
 
+#[inline]
 pub fn selector_new(from_rows: &[u32], from_elements: &[u32], starts: &mut [u32], rows: &mut [u32], weights: &mut [f64], elements: &mut [u32]) -> Answer {
     lent!(socwr_selector_new(; from_rows, from_elements ; ; ; starts, rows, weights, elements))
 }
 
+#[inline]
 pub fn residual(dim: u64, columns: u64, rows: &[u32], cols: &[u32], values: &[f64], eps: f64, rhs: &[f64], answer: &[f64], out: &mut [f64]) -> Answer {
     lent!(socwr_residual(dim, columns ; rows, cols, values ; eps ; rhs, answer ; out))
 }
 
+#[inline]
 pub fn transpose(dim: u64, rows: &[u32], cols: &[u32], values: &[f64], out_rows: &mut [u32], out_cols: &mut [u32], out_values: &mut [f64]) -> Answer {
     lent!(socwr_transpose(dim ; rows, cols, values ; ; ; out_rows, out_cols, out_values))
 }
 
+#[inline]
 pub fn selector_matrix(dim: u64, starts: &[u32], rows: &[u32], weights: &[f64], out: &mut [f64]) -> Answer {
     lent!(socwr_selector_matrix(dim ; starts, rows, weights ; ; ; out))
 }
 
+#[inline]
 pub fn combine(mode: u64, dim: u64, columns: u64, starts: &[u32], rows: &[u32], weights: &[f64], sign: f64, rhs: &[f64], solution: &[f64], out: &mut [f64]) -> Answer {
     lent!(socwr_combine(mode, dim, columns ; starts, rows, weights ; sign ; rhs, solution ; out))
 }

@@ -1,6 +1,6 @@
 //! `served_unit_scale` on every pair, and on codes that name nothing.
 
-use crate::numbering::EXTREMES;
+use crate::random::EXTREMES;
 use crate::random::{same, Random};
 use crate::report::Subject;
 use tellegen::sens::{served_unit_scale, Bound, CostTerm, End, Operand, Parameter, Power, TapKind, VoltageKind, GB};

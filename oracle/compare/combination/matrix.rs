@@ -1,8 +1,9 @@
 //! The selector matrix, as `forward_adjoint` hands it to its solve.
 
+use super::lists::{Items, MOST_COLUMNS, MOST_DIM};
+use super::one_list::OneList;
 use crate::lent::Lent;
-use crate::lists::{Items, MOST_COLUMNS, MOST_DIM};
-use crate::outcome::{brief, OneList};
+use crate::outcome::brief;
 use crate::random::Random;
 use crate::report::Subject;
 use plain::{refused, Refused};

@@ -1,7 +1,7 @@
 //! `Selector::new`: starts, rows, weights, elements.
 
+use super::lists::MOST_COLUMNS;
 use crate::lent::Lent;
-use crate::lists::MOST_COLUMNS;
 use crate::outcome::{answer, brief};
 use crate::random::Random;
 use crate::report::Subject;

@@ -1,9 +1,10 @@
 //! Both combinations of `forward_adjoint`, with the solution given.
 
+use super::lists::{matrix, Items, MOST_COLUMNS, MOST_DIM};
+use super::one_list::OneList;
 use crate::lent::Lent;
-use crate::lists::{matrix, Items, MOST_COLUMNS, MOST_DIM};
-use crate::numbering::EXTREMES;
-use crate::outcome::{brief, OneList};
+use crate::outcome::brief;
+use crate::random::EXTREMES;
 use crate::random::Random;
 use crate::report::Subject;
 use plain::{refused, Refused};
@@ -108,7 +109,7 @@ impl Case {
 /// Sizes at and past the limits.
 fn limits(subject: &mut Subject, random: &mut Random) {
     for mode in [FORWARD, ADJOINT] {
-        for (dim, columns) in crate::residual::LIMITS {
+        for (dim, columns) in super::residual::LIMITS {
             let items = Items::any(random, dim.min(1 << 32));
             Case::sized(random, mode, dim, columns, items).compare(subject, random);
             let none = Items { starts: vec![0], rows: vec![], weights: vec![] };

@@ -1,6 +1,6 @@
 //! Shapes of networks: every small one, random ones, and the largest.
 
-use crate::network::{Branch, Generator, Shape};
+use super::network::{Branch, Generator, Shape};
 use crate::random::Random;
 
 /// Every list of at most `most` of the choices.

@@ -1,15 +1,15 @@
 //! Kept answers of records and numbering: networks, good and damaged, each with some questions.
 
-use crate::damage;
-use crate::expect::{COLUMN_BLOCKS, ROW_BLOCKS};
-use crate::keep::Words;
+use super::damage;
+use super::expect::{COLUMN_BLOCKS, ROW_BLOCKS};
+use super::network::{Branch, Generator, Network, Shape};
+use super::numbering::past;
+use super::shapes;
+use super::wanted::Wanted;
+use crate::keep::{Counts, Words};
 use crate::lent::Element;
-use crate::network::{Branch, Generator, Network, Shape};
-use crate::numbering::past;
 use crate::outcome::answer;
 use crate::random::Random;
-use crate::shapes;
-use crate::wanted::Wanted;
 
 const CHECK: u64 = 0;
 const SIZES: u64 = 1;
@@ -114,8 +114,8 @@ fn examples() -> Vec<Shape> {
     ]
 }
 
-/// All of them; how many networks and answers.
-pub fn write(words: &mut Words) -> (u64, u64) {
+/// All of them.
+pub fn write(words: &mut Words) -> Counts {
     let random = &mut Random::new(9);
     let mut networks: Vec<Network> = examples().iter().map(|shape| Network::of(shape, random)).collect();
     while networks.len() < 150 {
@@ -129,5 +129,5 @@ pub fn write(words: &mut Words) -> (u64, u64) {
         }
     }
     let answers = networks.iter().map(|network| one(words, network, random)).sum();
-    (networks.len() as u64, answers)
+    Counts { cases: networks.len() as u64, answers }
 }

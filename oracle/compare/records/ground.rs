@@ -1,10 +1,10 @@
 //! The networks on which records and numbering are compared.
 
-use crate::damage;
-use crate::network::{Branch, Generator, Network, Shape};
-use crate::numbering::Numbering;
+use super::damage;
+use super::network::{Branch, Generator, Network, Shape};
+use super::numbering::Numbering;
+use super::shapes;
 use crate::random::Random;
-use crate::shapes;
 use plain::Counts;
 
 const RANDOM: u64 = 22_000;

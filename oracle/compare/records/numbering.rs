@@ -1,16 +1,13 @@
 //! Records and numbering: every answer on one network, held against the Rust.
 
-use crate::expect::{COLUMN_BLOCKS, ROW_BLOCKS};
+use super::expect::{COLUMN_BLOCKS, ROW_BLOCKS};
+use super::network::Network;
+use super::wanted::Wanted;
 use crate::lent::Lent;
-use crate::network::Network;
 use crate::outcome::answer;
-use crate::random::Random;
+use crate::random::{Random, EXTREMES};
 use crate::report::Subject;
-use crate::wanted::Wanted;
 use socwr::Net;
-
-/// Past every end.
-pub const EXTREMES: [u64; 7] = [1 << 16, u32::MAX as u64, 1 << 32, (1 << 32) + 1, 1 << 63, u64::MAX - 1, u64::MAX];
 
 /// The subjects of this part, and how often only the sum of the counts was wrong.
 pub struct Numbering {

@@ -1,6 +1,6 @@
 //! What the Rust answers of a network that passed the record check, with document 01's refusals.
 
-use crate::network::Network;
+use super::network::Network;
 use plain::numbering::Name;
 use plain::{refused, Counts, Refused};
 use tellegen::clarabel::solver::SupportedConeT::{NonnegativeConeT, SecondOrderConeT, ZeroConeT};

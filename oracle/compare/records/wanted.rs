@@ -1,7 +1,7 @@
 //! What the entries of records and numbering should answer: the record check's refusal, else the Rust's answer.
 
-use crate::expect::{Expected, Found};
-use crate::network::Network;
+use super::expect::{Expected, Found};
+use super::network::Network;
 use plain::numbering::Name;
 use plain::{refused, Refused};
 use socwr::{Answer, Sizes};

@@ -1,8 +1,9 @@
 //! The residual pass of `solve_refined`.
 
+use super::lists::{matrix, Entries, MOST_COLUMNS, MOST_DIM};
+use super::one_list::OneList;
 use crate::lent::Lent;
-use crate::lists::{matrix, Entries, MOST_COLUMNS, MOST_DIM};
-use crate::outcome::{brief, OneList};
+use crate::outcome::brief;
 use crate::random::Random;
 use crate::report::Subject;
 use plain::{refused, Refused};

@@ -1,6 +1,6 @@
 //! Networks that the record check turns away, made from good ones.
 
-use crate::network::Network;
+use super::network::Network;
 use crate::random::Random;
 use plain::RECORD;
 

@@ -1,7 +1,7 @@
 //! The transposed entries, as `forward_adjoint` hands them to its solve.
 
+use super::lists::{Entries, MOST_DIM};
 use crate::lent::Lent;
-use crate::lists::{Entries, MOST_DIM};
 use crate::outcome::{answer, brief};
 use crate::random::Random;
 use crate::report::Subject;

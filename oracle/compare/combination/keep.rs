@@ -1,13 +1,13 @@
 //! Kept answers of interface and combination: one call a case.
 
-use crate::combine;
-use crate::keep::Words;
-use crate::lists::{lengths, Entries, Items};
-use crate::matrix;
+use super::combine;
+use super::lists::{lengths, Entries, Items};
+use super::matrix;
+use super::residual;
+use super::scale::{operands, parameters};
+use super::transpose;
+use crate::keep::{Counts, Words};
 use crate::random::Random;
-use crate::residual;
-use crate::scale::{operands, parameters};
-use crate::transpose;
 use plain::{refused, Refused};
 use tellegen::faer::Mat;
 use tellegen::sens::{max_abs, served_unit_scale, Selector};
@@ -66,8 +66,7 @@ fn put(words: &mut Words, call: &Call, left: &Left) {
     left.written.iter().for_each(|list| words.word(list.len() as u64));
     words.word(left.floats.len() as u64);
     words.words(&[left.number, left.value, bits(left.result)]);
-    let numbers = call.read.iter().chain(&[]).flatten();
-    numbers.for_each(|&x| words.word(x as u64));
+    call.read.iter().flatten().for_each(|&x| words.word(x as u64));
     call.floats.iter().flatten().for_each(|&x| words.word(bits(x)));
     left.written.iter().flatten().for_each(|&x| words.word(x as u64));
     left.floats.iter().for_each(|&x| words.word(bits(x)));
@@ -169,8 +168,8 @@ fn combined(random: &mut Random) -> (Call, Left) {
     (Call { entry: 6, numbers, float: c.sign, read: [starts, rows], floats: [weights, c.rhs, c.solution] }, wanted)
 }
 
-/// All of them; how many.
-pub fn write(words: &mut Words) -> u64 {
+/// All of them.
+pub fn write(words: &mut Words) -> Counts {
     let random = &mut Random::new(10);
     let kinds: [(u64, fn(&mut Random) -> (Call, Left)); 7] = [
         (40, unit_scale), (30, selector_new), (20, largest), (60, residuals), (30, transposed), (40, selector_matrix), (100, combined),
@@ -181,5 +180,6 @@ pub fn write(words: &mut Words) -> u64 {
             put(words, &call, &left);
         }
     }
-    kinds.iter().map(|kind| kind.0).sum()
+    let cases = kinds.iter().map(|kind| kind.0).sum();
+    Counts { cases, answers: cases }
 }
