@@ -69,19 +69,23 @@ fn residual(t: &Text) -> String {
     )
 }
 
-/// The contraction of the adjoint in `forward_adjoint`, as a function that can be timed by itself.
-fn contraction(t: &Text) -> String {
-    let lines = t.piece("            let cols_nnz: Vec<Vec<(usize, f64)>> = (0..nparam)\n", "                .collect())\n");
+/// Both combinations of `forward_adjoint`, as functions that can be timed by themselves.
+fn combinations(t: &Text) -> String {
+    let end = "                .collect())\n";
+    let forward = t.piece("            Ok(op_map\n", end);
+    let adjoint = t.piece("            let cols_nnz: Vec<Vec<(usize, f64)>> = (0..nparam)\n", end);
     format!(
-        "\npub fn contraction(dim: usize, nparam: usize, op_map: &[Vec<(usize, f64)>], sign: f64, \
-         forward_rhs: &Mat<f64>, y: &Mat<f64>) -> Result<Vec<Vec<f64>>, String> {{\n{lines}}}\n"
+        "\npub fn forward(nparam: usize, op_map: &[Vec<(usize, f64)>], sign: f64, x: &Mat<f64>) \
+         -> Result<Vec<Vec<f64>>, String> {{\n{forward}}}\n\n\
+         pub fn adjoint(dim: usize, nparam: usize, op_map: &[Vec<(usize, f64)>], sign: f64, \
+         forward_rhs: &Mat<f64>, y: &Mat<f64>) -> Result<Vec<Vec<f64>>, String> {{\n{adjoint}}}\n"
     )
 }
 
 /// `sens/mod.rs`, whole but for the other formulations, with the lifted loops behind it.
 fn sens_mod(from: &Path, to: &Path) {
     let mut t = Text::read(from, "sens/mod.rs");
-    let lifted = residual(&t) + &contraction(&t);
+    let lifted = residual(&t) + &combinations(&t);
     t.drop_line("mod ac;");
     t.drop_line("mod dc;");
     t.drop_line("pub use ac::AcNewton;");
