@@ -41,7 +41,8 @@ fn residuals(entries: usize, random: &mut Random) {
     let mut reg = Some(regularized(dim, &triplets, EPS));
     let (b, y) = (Mat::from_columns(dim, COLUMNS, rhs.clone()), Mat::from_columns(dim, COLUMNS, x.clone()));
     let mut out = vec![0.0; dim * COLUMNS];
-    let ours = || socwr::residual(dim as u64, COLUMNS as u64, &rows, &cols, &values, EPS, &rhs, &x, black_box(&mut out));
+    let ours =
+        || socwr::residual(dim as u64, COLUMNS as u64, &rows, &cols, &values, EPS, &rhs, &x, black_box(&mut out));
     let rust = || {
         let (list, made) = residual(reg.take().expect("the list"), black_box(&b), black_box(&y));
         reg = Some(list);
@@ -60,7 +61,9 @@ fn forwards(entries: usize, random: &mut Random) {
         let Items { starts, rows, weights, .. } = &list;
         socwr::combine(0, dim as u64, COLUMNS as u64, starts, rows, weights, -1.0, &[], &solution, black_box(&mut out))
     };
-    line(&format!("forward, {items} items of 20 rows"), ours, || forward(COLUMNS, black_box(&list.map), -1.0, black_box(&x)));
+    line(&format!("forward, {items} items of 20 rows"), ours, || {
+        forward(COLUMNS, black_box(&list.map), -1.0, black_box(&x))
+    });
 }
 
 /// `nonzeros` in each column of the right side.

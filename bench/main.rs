@@ -1,8 +1,8 @@
 //! Times of the entries beside the Rust's, in one run: medians of rounds that take turns.
 
+mod clock;
 #[cfg(part = "combination")]
 mod combination;
-mod clock;
 #[allow(dead_code)]
 #[path = "../oracle/compare/records/network.rs"]
 mod network;

@@ -12,7 +12,8 @@ use std::hint::black_box;
 
 /// One branch and a half for each bus, a generator for each four, every other with three segments.
 fn usual(buses: u32) -> Shape {
-    let branches = (0..buses * 3 / 2).map(|e| Branch { from: e % buses, to: (e + 1 + e / buses) % buses, flags: (e % 4) as u8 });
+    let branches =
+        (0..buses * 3 / 2).map(|e| Branch { from: e % buses, to: (e + 1 + e / buses) % buses, flags: (e % 4) as u8 });
     let generators = (0..buses / 4).map(|g| Generator { bus: 4 * g, flags: 1 + (g % 2) as u8 * 2, segments: 3 });
     Shape { buses, branches: branches.collect(), generators: generators.collect() }
 }
@@ -35,11 +36,20 @@ fn lookups(net: Net, c: Counts) {
     for (what, block, index) in [("column number, qt", 8, last(c.m)), ("column number, cost", 9, costly)] {
         line(what, || socwr::column_number(black_box(net), block, index), || open().column_number(block, index));
     }
-    let rows = [("row number, anglb", 13, last(c.m)), ("row number, cost", 14, costly), ("row number, jabr", 15, last(c.m)), ("row number, thermal", 16, limited)];
+    let rows = [
+        ("row number, anglb", 13, last(c.m)),
+        ("row number, cost", 14, costly),
+        ("row number, jabr", 15, last(c.m)),
+        ("row number, thermal", 16, limited),
+    ];
     for (what, block, index) in rows {
         line(what, || socwr::row_number(black_box(net), block, index, 0), || open().row_number(block, index, 0));
     }
-    line("column name, last", || socwr::column_name(black_box(net), last(sizes.nvar)), || open().column_name(last(sizes.nvar)));
+    line(
+        "column name, last",
+        || socwr::column_name(black_box(net), last(sizes.nvar)),
+        || open().column_name(last(sizes.nvar)),
+    );
     line("row name, last", || socwr::row_name(black_box(net), last(sizes.ncon)), || open().row_name(last(sizes.ncon)));
     let need = (2 + c.m + 2 * sizes.t) as usize;
     let (mut ours, mut theirs) = (vec![0; need], vec![0; need]);
@@ -52,7 +62,11 @@ fn one_size(title: &str, shape: &Shape) {
     let net = Net { counts: c, records: &network.bytes };
     head(&format!("{title}: n {} m {} k {} S {}", c.n, c.m, c.k, c.s));
     println!("  {:<46}{:>12}", "the bytes read once", shown(one(|| read_once(black_box(net.records)))));
-    line("record check", || socwr::check_records(black_box(net)), || plain::check(black_box(c), black_box(net.records)));
+    line(
+        "record check",
+        || socwr::check_records(black_box(net)),
+        || plain::check(black_box(c), black_box(net.records)),
+    );
     lookups(net, c);
 }
 

@@ -25,7 +25,8 @@ impl Words {
 /// The line at the front, padded to 128 bytes.
 fn head() -> String {
     let release = env!("ORACLE_RUSTC").split(' ').take(2).collect::<Vec<_>>().join(" ");
-    let text = format!("Answers of the Rust, made by `oracle/run --keep` with {release}; the format is in docs/VECTORS.md");
+    let text =
+        format!("Answers of the Rust, made by `oracle/run --keep` with {release}; the format is in docs/VECTORS.md");
     format!("{text:<127}\n")
 }
 

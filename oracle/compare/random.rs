@@ -59,8 +59,20 @@ impl Random {
 }
 
 const SPECIAL: [f64; 14] = [
-    0.0, -0.0, 0.0, -0.0, 1.0, -1.0, f64::NAN, f64::INFINITY, f64::NEG_INFINITY, 5e-324,
-    f64::MIN_POSITIVE, f64::MAX, f64::MIN, std::f64::consts::PI,
+    0.0,
+    -0.0,
+    0.0,
+    -0.0,
+    1.0,
+    -1.0,
+    f64::NAN,
+    f64::INFINITY,
+    f64::NEG_INFINITY,
+    5e-324,
+    f64::MIN_POSITIVE,
+    f64::MAX,
+    f64::MIN,
+    std::f64::consts::PI,
 ];
 
 /// Past every end.

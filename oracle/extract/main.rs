@@ -58,7 +58,8 @@ fn model_ac(from: &Path, to: &Path) {
 
 /// The residual loop of `solve_refined`, and the list that it runs over, as functions.
 fn residual(t: &Text) -> String {
-    let list = t.piece("    let mut reg: Vec<Triplet<usize, usize, f64>> = triplets\n", "(d, d, eps));\n        }\n    }\n");
+    let list =
+        t.piece("    let mut reg: Vec<Triplet<usize, usize, f64>> = triplets\n", "(d, d, eps));\n        }\n    }\n");
     let pass = t.piece("            let mut r = rhs.clone();\n", "x[(tr.col, c)];\n                }\n            }\n");
     format!(
         "\npub fn regularized(dim: usize, triplets: &[(usize, usize, f64)], eps: f64) -> Vec<Triplet<usize, usize, f64>> {{\n\

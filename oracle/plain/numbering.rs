@@ -53,7 +53,14 @@ impl<'a> Network<'a> {
         let t = flagged(self.branches(), 1);
         let cost_columns = flagged(self.generators(), 2);
         let (n_eq, n_ineq) = (2 * n + 4 * m, 2 * n + 4 * k + 2 * m + s);
-        Sizes { n_eq, n_ineq, nvar: 2 * k + n + 6 * m + cost_columns, ncon: n_eq + n_ineq + 4 * m + 6 * t, t, cost_columns }
+        Sizes {
+            n_eq,
+            n_ineq,
+            nvar: 2 * k + n + 6 * m + cost_columns,
+            ncon: n_eq + n_ineq + 4 * m + 6 * t,
+            t,
+            cost_columns,
+        }
     }
 
     /// The lengths of the column blocks but the last.

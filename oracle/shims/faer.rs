@@ -78,7 +78,11 @@ pub mod sparse {
     pub struct SparseColMat<I, T>(std::marker::PhantomData<(I, T)>);
 
     impl SparseColMat<usize, f64> {
-        pub fn try_new_from_triplets(_: usize, _: usize, _: &[Triplet<usize, usize, f64>]) -> Result<Self, &'static str> {
+        pub fn try_new_from_triplets(
+            _: usize,
+            _: usize,
+            _: &[Triplet<usize, usize, f64>],
+        ) -> Result<Self, &'static str> {
             Err("no factorization here")
         }
 

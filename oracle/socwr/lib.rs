@@ -2,8 +2,8 @@
 
 mod declared;
 
-pub use declared::{Answer, Name, Scalar, Sizes};
 use declared::*;
+pub use declared::{Answer, Name, Scalar, Sizes};
 use plain::Counts;
 
 /// A network as it is handed over.
@@ -77,17 +77,42 @@ macro_rules! lent {
 }
 
 #[inline]
-pub fn selector_new(from_rows: &[u32], from_elements: &[u32], starts: &mut [u32], rows: &mut [u32], weights: &mut [f64], elements: &mut [u32]) -> Answer {
+pub fn selector_new(
+    from_rows: &[u32],
+    from_elements: &[u32],
+    starts: &mut [u32],
+    rows: &mut [u32],
+    weights: &mut [f64],
+    elements: &mut [u32],
+) -> Answer {
     lent!(socwr_selector_new(; from_rows, from_elements ; ; ; starts, rows, weights, elements))
 }
 
 #[inline]
-pub fn residual(dim: u64, columns: u64, rows: &[u32], cols: &[u32], values: &[f64], eps: f64, rhs: &[f64], answer: &[f64], out: &mut [f64]) -> Answer {
+pub fn residual(
+    dim: u64,
+    columns: u64,
+    rows: &[u32],
+    cols: &[u32],
+    values: &[f64],
+    eps: f64,
+    rhs: &[f64],
+    answer: &[f64],
+    out: &mut [f64],
+) -> Answer {
     lent!(socwr_residual(dim, columns ; rows, cols, values ; eps ; rhs, answer ; out))
 }
 
 #[inline]
-pub fn transpose(dim: u64, rows: &[u32], cols: &[u32], values: &[f64], out_rows: &mut [u32], out_cols: &mut [u32], out_values: &mut [f64]) -> Answer {
+pub fn transpose(
+    dim: u64,
+    rows: &[u32],
+    cols: &[u32],
+    values: &[f64],
+    out_rows: &mut [u32],
+    out_cols: &mut [u32],
+    out_values: &mut [f64],
+) -> Answer {
     lent!(socwr_transpose(dim ; rows, cols, values ; ; ; out_rows, out_cols, out_values))
 }
 
@@ -97,6 +122,17 @@ pub fn selector_matrix(dim: u64, starts: &[u32], rows: &[u32], weights: &[f64], 
 }
 
 #[inline]
-pub fn combine(mode: u64, dim: u64, columns: u64, starts: &[u32], rows: &[u32], weights: &[f64], sign: f64, rhs: &[f64], solution: &[f64], out: &mut [f64]) -> Answer {
+pub fn combine(
+    mode: u64,
+    dim: u64,
+    columns: u64,
+    starts: &[u32],
+    rows: &[u32],
+    weights: &[f64],
+    sign: f64,
+    rhs: &[f64],
+    solution: &[f64],
+    out: &mut [f64],
+) -> Answer {
     lent!(socwr_combine(mode, dim, columns ; starts, rows, weights ; sign ; rhs, solution ; out))
 }

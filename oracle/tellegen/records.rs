@@ -73,18 +73,23 @@ impl<'a> Kind<'a> {
 /// Each piecewise generator takes its own segments, in generator order.
 fn costs(generators: &Kind, segments: &Kind) -> Vec<Option<PiecewiseCost>> {
     let mut rest = segments.0.iter();
-    generators.each(|r| r).into_iter().map(|r| {
-        r.flag(1).then(|| {
-            let own: Vec<&Record> = rest.by_ref().take(r.count()).collect();
-            PiecewiseCost {
-                slopes: own.iter().map(|s| s.float(0)).collect(),
-                intercepts: own.iter().map(|s| s.float(1)).collect(),
-            }
+    generators
+        .each(|r| r)
+        .into_iter()
+        .map(|r| {
+            r.flag(1).then(|| {
+                let own: Vec<&Record> = rest.by_ref().take(r.count()).collect();
+                PiecewiseCost {
+                    slopes: own.iter().map(|s| s.float(0)).collect(),
+                    intercepts: own.iter().map(|s| s.float(1)).collect(),
+                }
+            })
         })
-    }).collect()
+        .collect()
 }
 
 /// A network without buses, branches and generators.
+#[rustfmt::skip]
 fn empty(base_mva: f64, objective: PreparedObjective) -> AcNetwork {
     AcNetwork {
         n: 0, m: 0, br_from: vec![], br_to: vec![], g: vec![], b: vec![], g_fr: vec![], b_fr: vec![],
@@ -158,7 +163,15 @@ fn generators(net: AcNetwork, r: &Kind, segments: &Kind) -> AcNetwork {
 }
 
 /// The network of n buses, m branches, k generators and s segments in `bytes`.
-pub fn network(n: usize, m: usize, k: usize, s: usize, bytes: &[u8], base_mva: f64, objective: PreparedObjective) -> AcNetwork {
+pub fn network(
+    n: usize,
+    m: usize,
+    k: usize,
+    s: usize,
+    bytes: &[u8],
+    base_mva: f64,
+    objective: PreparedObjective,
+) -> AcNetwork {
     assert_eq!(bytes.len(), BYTES * (n + m + k + s));
     let segments = Kind::of(bytes, n + m + k, s);
     let net = empty(base_mva, objective);

@@ -122,7 +122,8 @@ typedef struct residual_case {
 } residual_case;
 
 static socwr_answer residual_of(residual_case c, double *out, uint64_t len) {
-    return socwr_residual(c.dim, c.columns, GIVEN(c.rows), GIVEN(c.cols), GIVEN(c.values), c.eps, GIVEN(c.rhs), GIVEN(c.answer), out, len);
+    return socwr_residual(c.dim, c.columns, GIVEN(c.rows), GIVEN(c.cols), GIVEN(c.values), c.eps,
+                          GIVEN(c.rhs), GIVEN(c.answer), out, len);
 }
 
 /* K has 2 at (0, 1) twice and 3 at (1, 0). */
@@ -202,7 +203,8 @@ typedef struct combine_case {
 } combine_case;
 
 static socwr_answer combined(combine_case c, double *out, uint64_t len) {
-    return socwr_combine(c.mode, c.dim, c.columns, GIVEN(c.starts), GIVEN(c.rows), GIVEN(c.weights), c.sign, GIVEN(c.rhs), GIVEN(c.solution), out, len);
+    return socwr_combine(c.mode, c.dim, c.columns, GIVEN(c.starts), GIVEN(c.rows), GIVEN(c.weights), c.sign,
+                         GIVEN(c.rhs), GIVEN(c.solution), out, len);
 }
 
 static socwr_answer matrix_of(combine_case c, double *out, uint64_t len) {

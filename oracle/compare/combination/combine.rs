@@ -4,8 +4,8 @@ use super::lists::{matrix, Items, MOST_COLUMNS, MOST_DIM};
 use super::one_list::OneList;
 use crate::lent::Lent;
 use crate::outcome::brief;
-use crate::random::EXTREMES;
 use crate::random::Random;
+use crate::random::EXTREMES;
 use crate::report::Subject;
 use plain::{refused, Refused};
 use tellegen::faer::Mat;
@@ -70,7 +70,11 @@ impl Case {
             FORWARD => of(&self.solution, self.columns),
             _ => of(&self.rhs, self.columns) && of(&self.solution, self.items.count() as u64),
         };
-        if fits { Ok(()) } else { refused(12, 0) }
+        if fits {
+            Ok(())
+        } else {
+            refused(12, 0)
+        }
     }
 
     pub fn expected(&self) -> Result<Vec<f64>, Refused> {
@@ -96,11 +100,15 @@ impl Case {
             let (s, r, w) = (starts.slice(), rows.slice(), weights.slice());
             socwr::combine(self.mode, self.dim, self.columns, s, r, w, self.sign, rhs.slice(), solution.slice(), out)
         };
-        let kept = || starts.untouched() && rows.untouched() && weights.untouched() && rhs.untouched() && solution.untouched();
+        let kept =
+            || starts.untouched() && rows.untouched() && weights.untouched() && rhs.untouched() && solution.untouched();
         let what = || {
             let lists = format!("starts {} rows {} weights {}", brief(&i.starts), brief(&i.rows), brief(&i.weights));
             let matrices = format!("rhs {} solution {}", brief(&self.rhs), brief(&self.solution));
-            format!("combine mode {} dim {} columns {} sign {:?} {lists} {matrices}", self.mode, self.dim, self.columns, self.sign)
+            format!(
+                "combine mode {} dim {} columns {} sign {:?} {lists} {matrices}",
+                self.mode, self.dim, self.columns, self.sign
+            )
         };
         list.hold(random, call, kept, what);
     }

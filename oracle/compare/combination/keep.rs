@@ -54,7 +54,11 @@ fn left(lent: [usize; 4], found: Result<(u64, [&[u32]; 3], &[f64]), Refused>) ->
 
 /// A float as its bits; every NaN as one.
 fn bits(x: f64) -> u64 {
-    if x.is_nan() { f64::NAN.to_bits() } else { x.to_bits() }
+    if x.is_nan() {
+        f64::NAN.to_bits()
+    } else {
+        x.to_bits()
+    }
 }
 
 fn put(words: &mut Words, call: &Call, left: &Left) {
@@ -91,8 +95,15 @@ fn selector_new(random: &mut Random) -> (Call, Left) {
     let elements = random.numbers(other, 1 << 32);
     let short = random.below(10);
     let lent = [items + 1, items, items, items];
-    let lent = [0, 1, 2, 3].map(|i| if short == i as u64 { lent[i].saturating_sub(1) } else { lent[i] + random.below(2) as usize });
-    let made = Selector::new(rows.iter().map(|&x| x as usize).collect(), elements.iter().map(|&x| x as usize).collect(), 1.0);
+    let lent = [0, 1, 2, 3].map(|i| {
+        if short == i as u64 {
+            lent[i].saturating_sub(1)
+        } else {
+            lent[i] + random.below(2) as usize
+        }
+    });
+    let made =
+        Selector::new(rows.iter().map(|&x| x as usize).collect(), elements.iter().map(|&x| x as usize).collect(), 1.0);
     let starts: Vec<u32> = (0..=made.map.len() as u32).collect();
     let to_rows: Vec<u32> = made.map.iter().flatten().map(|e| e.0 as u32).collect();
     let weights: Vec<f64> = made.map.iter().flatten().map(|e| e.1).collect();
@@ -129,7 +140,16 @@ fn residuals(random: &mut Random) -> (Call, Left) {
     let c = residual::Case::any(random);
     let wanted = floats(c.expected(), random);
     let Entries { rows, cols, values } = c.entries;
-    (Call { entry: 3, numbers: [c.dim, c.columns, 0], float: c.eps, read: [rows, cols], floats: [values, c.rhs, c.answer] }, wanted)
+    (
+        Call {
+            entry: 3,
+            numbers: [c.dim, c.columns, 0],
+            float: c.eps,
+            read: [rows, cols],
+            floats: [values, c.rhs, c.answer],
+        },
+        wanted,
+    )
 }
 
 fn transposed(random: &mut Random) -> (Call, Left) {
@@ -139,14 +159,29 @@ fn transposed(random: &mut Random) -> (Call, Left) {
         entries.spoil(random, dim);
     }
     let need = entries.rows.len();
-    let lent = [need; 3].map(|need| if random.once_in(8) { need.saturating_sub(1) } else { need + random.below(2) as usize });
+    let lent =
+        [need; 3].map(|need| if random.once_in(8) { need.saturating_sub(1) } else { need + random.below(2) as usize });
     let found = transpose::expected(dim, &entries).and_then(|list| {
-        if lent.iter().any(|&l| l < need) { refused(10, need as u64) } else { Ok(list) }
+        if lent.iter().any(|&l| l < need) {
+            refused(10, need as u64)
+        } else {
+            Ok(list)
+        }
     });
-    let lists = found.as_ref().map(|l| (need as u64, [&l.rows[..], &l.cols[..], &[][..]], &l.values[..])).map_err(|&r| r);
+    let lists =
+        found.as_ref().map(|l| (need as u64, [&l.rows[..], &l.cols[..], &[][..]], &l.values[..])).map_err(|&r| r);
     let wanted = left([lent[0], lent[1], 0, lent[2]], lists);
     let Entries { rows, cols, values } = entries;
-    (Call { entry: 4, numbers: [dim, 0, 0], read: [rows, cols], floats: [values, vec![], vec![]], ..Call::default() }, wanted)
+    (
+        Call {
+            entry: 4,
+            numbers: [dim, 0, 0],
+            read: [rows, cols],
+            floats: [values, vec![], vec![]],
+            ..Call::default()
+        },
+        wanted,
+    )
 }
 
 fn selector_matrix(random: &mut Random) -> (Call, Left) {
@@ -157,7 +192,16 @@ fn selector_matrix(random: &mut Random) -> (Call, Left) {
     }
     let wanted = floats(matrix::expected(dim, &items), random);
     let Items { starts, rows, weights } = items;
-    (Call { entry: 5, numbers: [dim, 0, 0], read: [starts, rows], floats: [weights, vec![], vec![]], ..Call::default() }, wanted)
+    (
+        Call {
+            entry: 5,
+            numbers: [dim, 0, 0],
+            read: [starts, rows],
+            floats: [weights, vec![], vec![]],
+            ..Call::default()
+        },
+        wanted,
+    )
 }
 
 fn combined(random: &mut Random) -> (Call, Left) {
@@ -172,7 +216,13 @@ fn combined(random: &mut Random) -> (Call, Left) {
 pub fn write(words: &mut Words) -> Counts {
     let random = &mut Random::new(10);
     let kinds: [(u64, fn(&mut Random) -> (Call, Left)); 7] = [
-        (40, unit_scale), (30, selector_new), (20, largest), (60, residuals), (30, transposed), (40, selector_matrix), (100, combined),
+        (40, unit_scale),
+        (30, selector_new),
+        (20, largest),
+        (60, residuals),
+        (30, transposed),
+        (40, selector_matrix),
+        (100, combined),
     ];
     for (count, make) in kinds {
         for _ in 0..count {

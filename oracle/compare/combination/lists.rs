@@ -121,7 +121,8 @@ impl Items {
 
     /// The Rust's `op_map`.
     pub fn map(&self) -> Vec<Vec<(usize, f64)>> {
-        let item = |w: &[u32]| (w[0] as usize..w[1] as usize).map(|j| (self.rows[j] as usize, self.weights[j])).collect();
+        let item =
+            |w: &[u32]| (w[0] as usize..w[1] as usize).map(|j| (self.rows[j] as usize, self.weights[j])).collect();
         self.starts.windows(2).map(item).collect()
     }
 

@@ -30,7 +30,14 @@ fn one(subject: &mut Subject, dim: u64, items: &Items, random: &mut Random) {
     let list = OneList { subject, size: items.size() + dim.min(1 << 20) as usize, want: expected(dim, items) };
     let call = |out: &mut [f64]| socwr::selector_matrix(dim, starts.slice(), rows.slice(), weights.slice(), out);
     let kept = || starts.untouched() && rows.untouched() && weights.untouched();
-    let what = || format!("selector_matrix dim {dim} starts {} rows {} weights {}", brief(&items.starts), brief(&items.rows), brief(&items.weights));
+    let what = || {
+        format!(
+            "selector_matrix dim {dim} starts {} rows {} weights {}",
+            brief(&items.starts),
+            brief(&items.rows),
+            brief(&items.weights)
+        )
+    };
     list.hold(random, call, kept, what);
 }
 

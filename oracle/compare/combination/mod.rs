@@ -15,6 +15,11 @@ pub use keep::write as keep;
 
 /// Its subjects.
 pub const PARTS: [crate::Part; 7] = [
-    scale::compare, selector::compare, largest::compare, residual::compare,
-    transpose::compare, matrix::compare, combine::compare,
+    scale::compare,
+    selector::compare,
+    largest::compare,
+    residual::compare,
+    transpose::compare,
+    matrix::compare,
+    combine::compare,
 ];

@@ -18,7 +18,13 @@ pub struct OneList<'a> {
 
 impl OneList<'_> {
     /// `call` writes into the slice; `kept` says whether all that was only to be read is unchanged.
-    pub fn hold(self, random: &mut Random, call: impl Fn(&mut [f64]) -> Answer, kept: impl Fn() -> bool, what: impl Fn() -> String) {
+    pub fn hold(
+        self,
+        random: &mut Random,
+        call: impl Fn(&mut [f64]) -> Answer,
+        kept: impl Fn() -> bool,
+        what: impl Fn() -> String,
+    ) {
         self.subject.case();
         let need = self.want.as_ref().map_or(3, |list| list.len());
         for length in lengths(random, need) {

@@ -73,12 +73,30 @@ impl Case {
         let size = e.size() + self.rhs.len() + self.answer.len();
         let list = OneList { subject, size, want: self.expected() };
         let call = |out: &mut [f64]| {
-            socwr::residual(self.dim, self.columns, rows.slice(), cols.slice(), values.slice(), self.eps, rhs.slice(), answer.slice(), out)
+            socwr::residual(
+                self.dim,
+                self.columns,
+                rows.slice(),
+                cols.slice(),
+                values.slice(),
+                self.eps,
+                rhs.slice(),
+                answer.slice(),
+                out,
+            )
         };
-        let kept = || rows.untouched() && cols.untouched() && values.untouched() && rhs.untouched() && answer.untouched();
+        let kept =
+            || rows.untouched() && cols.untouched() && values.untouched() && rhs.untouched() && answer.untouched();
         let what = || {
             let lists = format!("rows {} cols {} values {}", brief(&e.rows), brief(&e.cols), brief(&e.values));
-            format!("residual dim {} columns {} eps {:?} {lists} rhs {} answer {}", self.dim, self.columns, self.eps, brief(&self.rhs), brief(&self.answer))
+            format!(
+                "residual dim {} columns {} eps {:?} {lists} rhs {} answer {}",
+                self.dim,
+                self.columns,
+                self.eps,
+                brief(&self.rhs),
+                brief(&self.answer)
+            )
         };
         list.hold(random, call, kept, what);
     }
@@ -86,9 +104,24 @@ impl Case {
 
 /// Sizes at and past the limits.
 pub const LIMITS: [(u64, u64); 18] = [
-    (MOST_DIM, 1), (MOST_DIM, 2), (MOST_DIM, 0), (MOST_DIM + 1, 0), (MOST_DIM + 1, 1), (MOST_DIM - 1, 1),
-    (0, MOST_COLUMNS), (0, MOST_COLUMNS + 1), (1, MOST_COLUMNS), (3, MOST_COLUMNS), (1, MOST_COLUMNS + 1), (2, MOST_COLUMNS - 1),
-    (1 << 63, 2), (2, 1 << 63), (1 << 32, 1 << 32), (0, u64::MAX), (u64::MAX, 0), ((1 << 32) + 2, 1),
+    (MOST_DIM, 1),
+    (MOST_DIM, 2),
+    (MOST_DIM, 0),
+    (MOST_DIM + 1, 0),
+    (MOST_DIM + 1, 1),
+    (MOST_DIM - 1, 1),
+    (0, MOST_COLUMNS),
+    (0, MOST_COLUMNS + 1),
+    (1, MOST_COLUMNS),
+    (3, MOST_COLUMNS),
+    (1, MOST_COLUMNS + 1),
+    (2, MOST_COLUMNS - 1),
+    (1 << 63, 2),
+    (2, 1 << 63),
+    (1 << 32, 1 << 32),
+    (0, u64::MAX),
+    (u64::MAX, 0),
+    ((1 << 32) + 2, 1),
 ];
 
 /// All of it; whether nothing differs.

@@ -9,8 +9,15 @@ use tellegen::sens::{served_unit_scale, Bound, CostTerm, End, Operand, Parameter
 pub fn operands() -> Vec<Operand> {
     use Power::{Active, Reactive};
     let flow = |power, end| Operand::Flow { power, end };
-    let voltage = [VoltageKind::Magnitude, VoltageKind::Angle, VoltageKind::Squared, VoltageKind::ProductReal, VoltageKind::ProductImag];
-    let mut all = vec![Operand::Price(Active), Operand::Price(Reactive), Operand::Dispatch(Active), Operand::Dispatch(Reactive)];
+    let voltage = [
+        VoltageKind::Magnitude,
+        VoltageKind::Angle,
+        VoltageKind::Squared,
+        VoltageKind::ProductReal,
+        VoltageKind::ProductImag,
+    ];
+    let mut all =
+        vec![Operand::Price(Active), Operand::Price(Reactive), Operand::Dispatch(Active), Operand::Dispatch(Reactive)];
     all.extend([flow(Active, End::From), flow(Active, End::To), flow(Reactive, End::From), flow(Reactive, End::To)]);
     all.extend(voltage.map(Operand::Voltage));
     all
@@ -25,7 +32,12 @@ pub fn parameters() -> Vec<Parameter> {
     all.extend([GB::Conductance, GB::Susceptance].map(Parameter::SeriesAdmittance));
     all.extend([GB::Conductance, GB::Susceptance].map(Parameter::ShuntAdmittance));
     all.extend([Bound::Min, Bound::Max].map(Parameter::VoltageBound));
-    all.extend([bound(Active, Bound::Min), bound(Active, Bound::Max), bound(Reactive, Bound::Min), bound(Reactive, Bound::Max)]);
+    all.extend([
+        bound(Active, Bound::Min),
+        bound(Active, Bound::Max),
+        bound(Reactive, Bound::Min),
+        bound(Reactive, Bound::Max),
+    ]);
     all.extend([TapKind::Ratio, TapKind::PhaseShift].map(Parameter::Transformer));
     all.extend([Parameter::Switching, Parameter::ConstraintLimit]);
     all
@@ -48,7 +60,8 @@ pub fn compare() -> bool {
                 };
                 let got = socwr::unit_scale(operand, parameter, base);
                 let right = got.number == number && got.value == 0 && same(got.result, result);
-                let what = || format!("unit_scale({operand}, {parameter}, {base:?}) gave {got:?}, not {number}, {result:?}");
+                let what =
+                    || format!("unit_scale({operand}, {parameter}, {base:?}) gave {got:?}, not {number}, {result:?}");
                 subject.case();
                 subject.hold(number, right, operand.saturating_add(parameter) as usize, what);
             }

@@ -54,8 +54,12 @@ fn one(subject: &mut Subject, rows: &[u32], elements: &[u32], lent: [usize; 4]) 
     let found = expected(rows, elements, lent);
     let want = answer(found.as_ref().map(|l| l.elements.len() as u64).map_err(|&r| r));
     let got = socwr::selector_new(
-        from_rows.slice(), from_elements.slice(),
-        starts.slice_mut(), to_rows.slice_mut(), weights.slice_mut(), to_elements.slice_mut(),
+        from_rows.slice(),
+        from_elements.slice(),
+        starts.slice_mut(),
+        to_rows.slice_mut(),
+        weights.slice_mut(),
+        to_elements.slice_mut(),
     );
     let l = found.as_ref().ok();
     let right = got == want
@@ -65,7 +69,13 @@ fn one(subject: &mut Subject, rows: &[u32], elements: &[u32], lent: [usize; 4]) 
         && to_rows.after(l.map(|l| &l.rows[..]))
         && weights.after(l.map(|l| &l.weights[..]))
         && to_elements.after(l.map(|l| &l.elements[..]));
-    let what = || format!("selector_new into {lent:?} gave {got:?}, not {want:?}; rows {} elements {}", brief(rows), brief(elements));
+    let what = || {
+        format!(
+            "selector_new into {lent:?} gave {got:?}, not {want:?}; rows {} elements {}",
+            brief(rows),
+            brief(elements)
+        )
+    };
     subject.hold(want.number, right, rows.len() + elements.len(), what);
 }
 

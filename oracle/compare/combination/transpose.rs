@@ -35,12 +35,21 @@ fn one(subject: &mut Subject, dim: u64, entries: &Entries, lent: [usize; 3]) {
     let mut out_values = Lent::<f64>::blank(lent[2]);
     let found = expected(dim, entries).and_then(|list| {
         let need = list.rows.len();
-        if lent.iter().any(|&l| l < need) { refused(10, need as u64) } else { Ok(list) }
+        if lent.iter().any(|&l| l < need) {
+            refused(10, need as u64)
+        } else {
+            Ok(list)
+        }
     });
     let want = answer(found.as_ref().map(|l| l.rows.len() as u64).map_err(|&r| r));
     let got = socwr::transpose(
-        dim, rows.slice(), cols.slice(), values.slice(),
-        out_rows.slice_mut(), out_cols.slice_mut(), out_values.slice_mut(),
+        dim,
+        rows.slice(),
+        cols.slice(),
+        values.slice(),
+        out_rows.slice_mut(),
+        out_cols.slice_mut(),
+        out_values.slice_mut(),
     );
     let l = found.as_ref().ok();
     let right = got == want
@@ -51,7 +60,8 @@ fn one(subject: &mut Subject, dim: u64, entries: &Entries, lent: [usize; 3]) {
         && out_cols.after(l.map(|l| &l.cols[..]))
         && out_values.after(l.map(|l| &l.values[..]));
     let what = || {
-        let lists = format!("rows {} cols {} values {}", brief(&entries.rows), brief(&entries.cols), brief(&entries.values));
+        let lists =
+            format!("rows {} cols {} values {}", brief(&entries.rows), brief(&entries.cols), brief(&entries.values));
         format!("transpose dim {dim} into {lent:?} gave {got:?}, not {want:?}; {lists}")
     };
     subject.hold(want.number, right, entries.size(), what);

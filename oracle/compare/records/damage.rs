@@ -43,7 +43,8 @@ fn bad_record(net: &mut Network, random: &mut Random) {
         0 => net.bytes[at] = random.pick(&[0, 1, 2, 3, 4, 5, 255]),
         1 => net.bytes[at + 1] ^= 1 << random.pick(&[1, 2, 3, 7]),
         2 => net.bytes[at + unused(kind, random)] = 1 << random.below(8),
-        _ => net.bytes[at + [127, 127, 127, 127][kind]] = 0x80,
+        // The sign of the last float, which only a branch has.
+        _ => net.bytes[at + RECORD - 1] = 0x80,
     }
 }
 
@@ -85,8 +86,18 @@ fn bad_counts(net: &mut Network, random: &mut Random) {
     let limit = plain::check::LIMITS[which];
     let old = counts[which];
     counts[which] = random.pick(&[
-        old + 1, old.wrapping_sub(1), limit, limit + 1, 1 << 32, (1 << 32) + old, (1 << 57) + old, (1 << 58) + old,
-        1 << 63, (1 << 63) + old, u64::MAX, u64::MAX - old,
+        old + 1,
+        old.wrapping_sub(1),
+        limit,
+        limit + 1,
+        1 << 32,
+        (1 << 32) + old,
+        (1 << 57) + old,
+        (1 << 58) + old,
+        1 << 63,
+        (1 << 63) + old,
+        u64::MAX,
+        u64::MAX - old,
     ]);
     if random.once_in(3) {
         counts.swap(random.below(4) as usize, random.below(4) as usize);

@@ -26,11 +26,15 @@ impl Expected {
     pub fn of(network: &Network) -> Self {
         let Counts { n, m, k, s } = network.counts;
         let objective = PreparedObjective::Feasibility;
-        let net = tellegen::records::network(n as usize, m as usize, k as usize, s as usize, &network.bytes, 1.0, objective);
+        let net =
+            tellegen::records::network(n as usize, m as usize, k as usize, s as usize, &network.bytes, 1.0, objective);
         let layout = SocWrLayout::new(&net);
         let mut made = Expected { net, layout, columns: vec![], rows: vec![] };
-        made.columns = made.named(made.layout.nvar, COLUMN_BLOCKS, |e, name| (name.place == 0).then(|| e.column_number(name.block, name.index)));
-        made.rows = made.named(made.layout.ncon, ROW_BLOCKS, |e, name| Some(e.row_number(name.block, name.index, name.place)));
+        made.columns = made.named(made.layout.nvar, COLUMN_BLOCKS, |e, name| {
+            (name.place == 0).then(|| e.column_number(name.block, name.index))
+        });
+        made.rows =
+            made.named(made.layout.ncon, ROW_BLOCKS, |e, name| Some(e.row_number(name.block, name.index, name.place)));
         made
     }
 

@@ -54,12 +54,8 @@ impl Network {
         for _ in 0..s {
             push(&mut bytes, [4, 0], 0, [0, 0], 2, random);
         }
-        let counts = Counts {
-            n: shape.buses as u64,
-            m: shape.branches.len() as u64,
-            k: shape.generators.len() as u64,
-            s,
-        };
+        let counts =
+            Counts { n: shape.buses as u64, m: shape.branches.len() as u64, k: shape.generators.len() as u64, s };
         Network { counts, bytes }
     }
 

@@ -118,9 +118,11 @@ impl Numbering {
         for rows in [false, true] {
             for number in numbers(case.wanted.names(rows).len(), most, random) {
                 let want = case.wanted.name(rows, number);
-                let got = if rows { socwr::row_name(case.net(), number) } else { socwr::column_name(case.net(), number) };
+                let got =
+                    if rows { socwr::row_name(case.net(), number) } else { socwr::column_name(case.net(), number) };
                 let subject = if rows { &mut self.row_names } else { &mut self.column_names };
-                let what = || format!("{}_name({number}) gave {got:?}, not {want:?}", if rows { "row" } else { "column" });
+                let what =
+                    || format!("{}_name({number}) gave {got:?}, not {want:?}", if rows { "row" } else { "column" });
                 case.hold(subject, want.number, got == want, what);
             }
         }
@@ -135,15 +137,22 @@ impl Numbering {
             let want = answer(list.as_ref().map(|list| list.len() as u64).map_err(|&r| r));
             let got = socwr::cones(case.net(), out.slice_mut());
             let right = got == want && out.after(list.as_deref().ok());
-            let what = || format!("cones into {lent} gave {got:?}, not {want:?}; they hold {:?}", &out.slice()[..lent.min(20)]);
+            let what = || {
+                format!("cones into {lent} gave {got:?}, not {want:?}; they hold {:?}", &out.slice()[..lent.min(20)])
+            };
             case.hold(&mut self.cones, want.number, right, what);
         }
     }
 
     pub fn done(&self) -> bool {
         let subjects = [
-            &self.check, &self.sizes, &self.column_numbers, &self.row_numbers,
-            &self.column_names, &self.row_names, &self.cones,
+            &self.check,
+            &self.sizes,
+            &self.column_numbers,
+            &self.row_numbers,
+            &self.column_names,
+            &self.row_names,
+            &self.cones,
         ];
         // Each prints its line.
         let right = subjects.into_iter().fold(true, |right, subject| subject.done() && right);
@@ -158,8 +167,10 @@ fn asked(case: &Case, blocks: u64, most: usize, random: &mut Random) -> Vec<(u64
         return (0..3).map(|_| (random.below(blocks + 1), random.below(4), random.below(2))).collect();
     }
     let names = case.wanted.names(blocks == ROW_BLOCKS);
-    let mut list: Vec<(u64, u64, u64)> =
-        numbers(names.len(), most, random).filter_map(|at| names.get(at as usize)).map(|n| (n.block, n.index, n.place)).collect();
+    let mut list: Vec<(u64, u64, u64)> = numbers(names.len(), most, random)
+        .filter_map(|at| names.get(at as usize))
+        .map(|n| (n.block, n.index, n.place))
+        .collect();
     for block in 0..blocks {
         past(case.network, block, random, &mut list);
     }
@@ -183,7 +194,8 @@ pub fn past(network: &Network, block: u64, random: &mut Random, list: &mut Vec<(
 /// The numbers below `end`, or `most` of them at random, and some from `end` on.
 fn numbers(end: usize, most: usize, random: &mut Random) -> impl Iterator<Item = u64> {
     let end = end as u64;
-    let mut list: Vec<u64> = if end <= most as u64 { (0..end).collect() } else { (0..most).map(|_| random.below(end)).collect() };
+    let mut list: Vec<u64> =
+        if end <= most as u64 { (0..end).collect() } else { (0..most).map(|_| random.below(end)).collect() };
     list.extend([end, end.saturating_sub(1), end + 1, random.pick(&EXTREMES)]);
     list.into_iter()
 }

@@ -20,7 +20,8 @@ pub fn small() -> Vec<Shape> {
     let mut all = Vec::new();
     for buses in 0..=3u32 {
         let ends = (0..buses).flat_map(|f| (0..buses).map(move |t| (f, t))).filter(|(f, t)| f != t);
-        let branches: Vec<Branch> = ends.flat_map(|(from, to)| (0..2).map(move |flags| Branch { from, to, flags })).collect();
+        let branches: Vec<Branch> =
+            ends.flat_map(|(from, to)| (0..2).map(move |flags| Branch { from, to, flags })).collect();
         let costs = [(0, 0), (2, 0), (2, 1), (3, 2)];
         let generators: Vec<Generator> =
             (0..buses).flat_map(|bus| costs.map(|(flags, segments)| Generator { bus, flags, segments })).collect();
@@ -52,7 +53,11 @@ fn branch(random: &mut Random, buses: u64, earlier: &[Branch], flags: u64) -> Br
     if let (Some(&last), true) = (earlier.last(), random.once_in(4)) {
         // Parallel to the last one, often the other way round.
         let swap = random.once_in(2);
-        return Branch { from: if swap { last.to } else { last.from }, to: if swap { last.from } else { last.to }, flags };
+        return Branch {
+            from: if swap { last.to } else { last.from },
+            to: if swap { last.from } else { last.to },
+            flags,
+        };
     }
     let from = random.below(buses);
     let to = (from + 1 + random.below(buses - 1)) % buses;

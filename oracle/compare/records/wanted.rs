@@ -72,6 +72,10 @@ impl Wanted {
     pub fn cones(&self, lent: usize) -> Result<Vec<u32>, Refused> {
         let lengths = self.expected()?.cones();
         let need = lengths.len();
-        if lent < need { refused(10, need as u64) } else { Ok(lengths) }
+        if lent < need {
+            refused(10, need as u64)
+        } else {
+            Ok(lengths)
+        }
     }
 }
