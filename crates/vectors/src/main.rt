@@ -1,4 +1,5 @@
 // Replays the kept answers of the Rust (docs/VECTORS.md) and says how many agree.
+mod calls;
 mod input;
 mod networks;
 mod parts;
@@ -10,6 +11,9 @@ use tally::Tally;
 fn case(kind: u64, t: Tally) -> Tally {
     if kind == 1 {
         return networks::network(t.case());
+    }
+    if kind == 2 {
+        return calls::replay(t.case());
     }
     t.ended()
 }
