@@ -48,7 +48,7 @@ Sizes [] ws (suc c) = ⊥
 Sizes (B ∷ bs) [] (suc c) = ⊥
 Sizes (B ∷ bs) (w ∷ ws) (suc c) = (size B ≡ w) × Sizes bs ws c
 
-size-at : (bs : List Block) (ws : List ℕ) (c : ℕ) → Sizes bs ws c → (b : ℕ) → b < c → size (blockAt bs b) ≡ getD ws b 0
+pub size-at : (bs : List Block) (ws : List ℕ) (c : ℕ) → Sizes bs ws c → (b : ℕ) → b < c → size (blockAt bs b) ≡ getD ws b 0
 size-at bs ws zero h b l = absurd (omega arith)
 size-at [] ws (suc c) h b l = absurd h
 size-at (B ∷ bs) [] (suc c) h b l = absurd h
