@@ -1,5 +1,4 @@
 // Replays the kept answers of the Rust (docs/VECTORS.md) and says how many agree.
-mod calls;
 mod input;
 mod networks;
 mod parts;
@@ -11,9 +10,6 @@ use tally::Tally;
 fn case(kind: u64, t: Tally) -> Tally {
     if kind == 1 {
         return networks::network(t.case());
-    }
-    if kind == 2 {
-        return calls::replay(t.case());
     }
     t.ended()
 }

@@ -90,17 +90,17 @@ fn element(list: &[u32; 64], at: u64) -> u64 {
 fn cones(n: u64, m: u64, k: u64, s: u64, records: &[u8], lent: u64, at: u64) -> Results {
     let mut out = parts::numbers();
     let end = parts::of_numbers(lent, &out);
-    let a = kernel::socwr_cones(n, m, k, s, records, &mut out[..end]);
+    let a = kernel::numbers::socwr_cones(n, m, k, s, records, &mut out[..end]);
     five(a.number, a.value, element(&out, at), 0, 0)
 }
 
 fn check(n: u64, m: u64, k: u64, s: u64, records: &[u8]) -> Results {
-    let r = kernel::socwr_check_records(n, m, k, s, records);
+    let r = kernel::numbers::socwr_check_records(n, m, k, s, records);
     two(r.number, r.value)
 }
 
 fn sizes(n: u64, m: u64, k: u64, s: u64, records: &[u8]) -> Results {
-    let r = kernel::socwr_layout_new(n, m, k, s, records);
+    let r = kernel::numbers::socwr_layout_new(n, m, k, s, records);
     Results {
         a: r.number,
         b: r.value,
@@ -122,7 +122,7 @@ fn column_number(
     block: u64,
     index: u64,
 ) -> Results {
-    let r = kernel::socwr_column_number(n, m, k, s, records, block, index);
+    let r = kernel::numbers::socwr_column_number(n, m, k, s, records, block, index);
     two(r.number, r.value)
 }
 
@@ -136,17 +136,17 @@ fn row_number(
     index: u64,
     place: u64,
 ) -> Results {
-    let r = kernel::socwr_row_number(n, m, k, s, records, block, index, place);
+    let r = kernel::numbers::socwr_row_number(n, m, k, s, records, block, index, place);
     two(r.number, r.value)
 }
 
 fn column_name(n: u64, m: u64, k: u64, s: u64, records: &[u8], number: u64) -> Results {
-    let r = kernel::socwr_column_name(n, m, k, s, records, number);
+    let r = kernel::numbers::socwr_column_name(n, m, k, s, records, number);
     five(r.number, r.value, r.block, r.index, r.place)
 }
 
 fn row_name(n: u64, m: u64, k: u64, s: u64, records: &[u8], number: u64) -> Results {
-    let r = kernel::socwr_row_name(n, m, k, s, records, number);
+    let r = kernel::numbers::socwr_row_name(n, m, k, s, records, number);
     five(r.number, r.value, r.block, r.index, r.place)
 }
 

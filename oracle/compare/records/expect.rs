@@ -148,8 +148,8 @@ impl Expected {
 
     /// T and the count of cost columns.
     pub fn counted(&self) -> (u64, u64) {
-        let some = |list: usize| list as u64;
-        let t = self.layout.thermal_rows.iter().filter(|rows| rows.is_some()).count();
-        (some(t), some(self.layout.cost_columns.iter().filter(|c| c.is_some()).count()))
+        let t = self.layout.thermal_rows.iter().flatten().count();
+        let costs = self.layout.cost_columns.iter().flatten().count();
+        (t as u64, costs as u64)
     }
 }
