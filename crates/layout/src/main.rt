@@ -10,7 +10,7 @@ use refusals::value_of;
 
 fn number(n: u64) {
     io::write_all(STDOUT_FILENO, b" ");
-    io::number::print_decimal(STDOUT_FILENO, n);
+    io::print_decimal(STDOUT_FILENO, n);
 }
 
 fn refuse(cause: Refusal) {
