@@ -1,0 +1,7 @@
+// The workers, on the layout of accepted records.
+pub mod column;
+pub mod lengths;
+pub mod limit;
+pub mod plain;
+pub mod series;
+pub mod stores;
