@@ -4,3 +4,4 @@ pub mod Entries
 pub mod Parameters
 pub mod Causes
 pub mod Entry
+pub mod Answers

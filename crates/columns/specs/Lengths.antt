@@ -1,6 +1,11 @@
 -- `parameter_len` and `operand_len` of sens/conic.rs: which parameters and operands SOCWR has, and over how many elements each ranges.
 use Prim.Native.Nat.{ℕ}
 use mathlib.Core.Bool.{Bool, true, false}
+use mathlib.Core.List.{List}
+use Rattle.refusals.specs.Refusals.{_orElse_, refuseUnless}
+use Rattle.refusals.specs.declared.Checked.{Checked}
+use Rattle.refusals.specs.declared.Refusal.the-variants.{NotInSocWr}
+use Rattle.records.specs.Check.{checkOf}
 use Rattle.interface.specs.declared.Parameter.{Parameter}
 use Rattle.interface.specs.declared.Parameter.the-variants.{Demand, Cost, LineLimit, SeriesAdmittance, ShuntAdmittance, VoltageBound, GenBound, Transformer, Switching, ConstraintLimit}
 use Rattle.interface.specs.declared.Operand.{Operand}
@@ -72,3 +77,10 @@ asksCost (GenBound power bound) = false
 asksCost (Transformer tap) = false
 asksCost Switching = false
 asksCost ConstraintLimit = false
+
+-- ---- the entries: the record check, then 9 ("A length answer of None is number 9")
+abbrev pub parameterLenCheck : (n m k s : ℕ) → List ℕ → Parameter → Checked
+parameterLenCheck n m k s b p = checkOf n m k s b orElse refuseUnless (hasParameter p) NotInSocWr
+
+abbrev pub operandLenCheck : (n m k s : ℕ) → List ℕ → Operand → Checked
+operandLenCheck n m k s b o = checkOf n m k s b orElse refuseUnless (hasOperand o) NotInSocWr

@@ -4,3 +4,5 @@ pub mod Series
 pub mod Lengths
 pub mod Jacobian
 pub mod Places
+pub mod Selector
+pub mod Ids

@@ -29,7 +29,7 @@ ghost use Rattle.columns.specs.Stores.{put, plus, storedAll};
 ghost use Rattle.columns.specs.Jacobian.{minusOne64, demandRow, voltageRow, genRow, dbdp, costSlope, shuntRow, shuntEntry};
 ghost use Rattle.columns.specs.Places.{kktIn};
 
-fn demand_row(l: SocWrLayout, power: Power, i: usize) -> u32
+pub fn demand_row(l: SocWrLayout, power: Power, i: usize) -> u32
     requires { ⌜ InRange l ⌝ }
     requires { ⌜ i < l .n ⌝ }
     ensures { λ r. ⌜ r ≡ layoutRow l (demandRow power i) ⌝ }
