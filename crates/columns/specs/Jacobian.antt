@@ -18,7 +18,7 @@ use Rattle.numbering.specs.declared.ColumnName.the-variants.{Pg, W}
 use Rattle.numbering.specs.declared.RowName.{RowName}
 use Rattle.numbering.specs.declared.RowName.the-variants.{Pbal, Qbal, Wub, Wlb, Pgub, Pglb, Qgub, Qglb, Thermal}
 use Rattle.rows.specs.Ops.{rounded}
-use Rattle.rows.specs.Rows.{Coefficient, plain, over, constant, one, minusOne, constant64, zero64, ohmRow, ohmColumn}
+use Rattle.rows.specs.Rows.{Constant, Coefficient, plain, over, constant, one, minusOne, constant64, zero64, ohmRow, ohmColumn}
 use Rattle.interface.specs.declared.Power.{Power}
 use Rattle.interface.specs.declared.Power.the-variants.{Active, Reactive}
 use Rattle.interface.specs.declared.CostTerm.{CostTerm}
@@ -75,9 +75,12 @@ abbrev pub shuntRow : GB → ℕ → RowName
 shuntRow Conductance i = Pbal i
 shuntRow Susceptance i = Qbal i
 
+abbrev pub shuntConstant : GB → Constant
+shuntConstant Conductance = minusOne
+shuntConstant Susceptance = one
+
 abbrev pub shuntEntry : GB → Float
-shuntEntry Conductance = minusOne64
-shuntEntry Susceptance = one64
+shuntEntry gb = constant64 (shuntConstant gb)
 
 -- ---- every element's stores, in order
 unfoldable pub inTurn : {A : Type 0} → (A → List Store) → List A → List Store
