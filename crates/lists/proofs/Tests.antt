@@ -1,8 +1,8 @@
 -- Tests joined by `&&`. Assumes nothing.
 use Prim.Native.Nat.{ℕ, _+_, _<_}
-use mathlib.Core.Path.{_≡_, refl, _∙_}
+use mathlib.Core.Path.{_≡_, refl, sym, _∙_}
 use mathlib.Core.Bool.{Bool, true, false, _&&_}
-use Rattle.lists.specs.UpTo.{all}
+use Rattle.lists.specs.UpTo.{upTo, all}
 use Rattle.lists.proofs.UpTo.{upTo-more, upTo-stays, upTo-each}
 use native.Mathlib.Omega.{arith}
 
@@ -16,6 +16,14 @@ fails-first true b h = h
 fails-first false b h = refl
 
 module _ (f : ℕ → Bool) where
+  -- a loop that joins the tests: no turn, and one turn more
+  pub all-none : true ≡ all 0 f
+  unfolding upTo
+  all-none = refl
+
+  pub all-next : (i : ℕ) (b : Bool) → b ≡ all i f → b && f i ≡ all (i + 1) f
+  all-next i b p = rw p (sym (upTo-more _&&_ true f i))
+
   -- one more test passed, and one that failed
   pub all-more : (i : ℕ) → all i f ≡ true → f i ≡ true → all (i + 1) f ≡ true
   all-more i p q = upTo-more _&&_ true f i ∙ rw (p, q)

@@ -11,6 +11,7 @@ use Rattle.refusals.specs.Refusals.{_orElse_, isRefused, refuseUnless, r
 use Rattle.refusals.specs.declared.Refusal.{Refusal}
 use Rattle.refusals.specs.declared.Checked.{Checked}
 use Rattle.refusals.specs.declared.Checked.the-variants.{Accepted, Refused}
+use Rattle.refusals.specs.declared.Written.{Written}
 use Rattle.refusals.specs.declared.Written.the-variants as Written
 
 pub orElse-refused : (a c : Checked) → isRefused a ≡ true → a orElse c ≡ a
@@ -90,3 +91,30 @@ accepted-by {r} e p h = sym e ∙ passed r (sym p ∙ h)
 
 pub refused-by : {r c : Checked} {b : Bool} → r ≡ c → b ≡ isRefused r → b ≡ true → isRefused c ≡ true
 refused-by e p h = rw (← e, ← p) h
+
+-- a test that failed, or one that held and the rest of the check
+pub first-failed : {t : Bool} {cause : Refusal} {r : Checked} (c : Checked) → t ≡ false → r ≡ Refused cause → r ≡ refuseUnless t cause orElse c
+unfolding refuseUnless _orElse_
+first-failed c h e = rw h e
+
+pub first-held : {t : Bool} (cause : Refusal) {r c : Checked} → t ≡ true → r ≡ c → r ≡ refuseUnless t cause orElse c
+unfolding refuseUnless _orElse_
+first-held cause h e = rw h e
+
+-- the count says nothing on a refusal
+pub count-any : (c : Checked) (m n : ℕ) → isRefused c ≡ true → writtenIf c m ≡ writtenIf c n
+unfolding writtenIf isRefused
+count-any Accepted m n h = absurd (subst T (sym h) tt)
+count-any (Refused cause) m n h = refl
+
+-- an entry that checks, and then writes the front of one lent list
+module _ {r c : Checked} {b : Bool} {A : Type 0} (e : r ≡ c) (p : b ≡ isRefused r) where
+  pub refuses : {w : Written} (m n : ℕ) (xs ys : List A) → b ≡ true → w ≡ writtenIf r m → (w ≡ writtenIf c n) × (ys ≡ leftIn c xs ys)
+  refuses m n xs ys h q =
+      let f = refused-by e p h in
+      (q ∙ rw e (count-any c m n f), sym (left-refused c xs ys f))
+
+  pub writes : {part xs : List A} (m n : ℕ) (ys : List A) → b ≡ false → part ≡ xs → length part ≡ n → m ≡ n → (Written.Count m ≡ writtenIf c n) × (part ++ drop m ys ≡ leftIn c xs ys)
+  writes m n ys h q l k =
+      let f = accepted-by e p h in
+      (rw k (sym (count-written n f)), rw k (left-front n ys f q l))
