@@ -1,14 +1,13 @@
 -- How an entry goes on after the record check. Assumes nothing.
 use Prim.Native.Nat.{ℕ}
-use mathlib.Core.Path.{_≡_, refl, sym, ap, _∙_, subst}
-use mathlib.Core.Bool.{true, false}
+use mathlib.Core.Path.{_≡_, refl, sym, ap, _∙_}
+use mathlib.Core.Bool.{true}
 use mathlib.Core.List.{List}
-use lib.Dec.{T}
 use Rattle.refusals.specs.Refusals.{_orElse_, isRefused, writtenIf, leftIn}
 use Rattle.refusals.specs.declared.Checked.{Checked}
-use Rattle.refusals.specs.declared.Checked.the-variants.{Accepted, Refused}
+use Rattle.refusals.specs.declared.Checked.the-variants.{Accepted}
 use Rattle.refusals.specs.declared.Written.{Written}
-use Rattle.refusals.proofs.Laws.{orElse-refused, accepted-first, left-refused}
+use Rattle.refusals.proofs.Laws.{orElse-refused, accepted-first, left-refused, count-any}
 use Rattle.records.specs.Network.{networkOf}
 use Rattle.records.specs.Check.{checkOf}
 use Rattle.records.proofs.Laws.{accepted}
@@ -22,14 +21,9 @@ laid n m k s b h e =
     let a = accepted n m k s b h in
     rw e (record { accepted = a; range = accepted-range n m k s b a; is = refl })
 
-written-none : (c : Checked) (i j : ℕ) → isRefused c ≡ true → writtenIf c i ≡ writtenIf c j
-unfolding writtenIf isRefused
-written-none Accepted i j h = absurd (subst T (sym h) tt)
-written-none (Refused cause) i j h = refl
-
 -- refused by the first check: the answer, and what is left
 pub answer-first : {r : Written} (c d : Checked) (i j : ℕ) → isRefused c ≡ true → r ≡ writtenIf c i → r ≡ writtenIf (c orElse d) j
-answer-first c d i j h e = e ∙ written-none c i j h ∙ ap (λ (x : Checked). writtenIf x j) (sym (orElse-refused c d h))
+answer-first c d i j h e = e ∙ count-any c i j h ∙ ap (λ (x : Checked). writtenIf x j) (sym (orElse-refused c d h))
 
 pub left-first : {A : Type 0} (c d : Checked) (xs ys : List A) → isRefused c ≡ true → ys ≡ leftIn (c orElse d) xs ys
 left-first c d xs ys h = sym (left-refused _ xs ys (rw (orElse-refused c d h) h))

@@ -12,6 +12,7 @@ use interface::Operand;
 use interface::Parameter;
 use numbering::inner::layout;
 use records::check_records;
+use refusals::Checked;
 use refusals::Refusal;
 use refusals::Written;
 use refusals::is_refused;
@@ -139,6 +140,16 @@ pub fn operand_selector(
     selector_of(l, bytes, operand, starts, rows, weights, elements)
 }
 
+// The id, where the check passed.
+pub fn id_if(check: Checked, id: ElementId) -> IdAnswer
+    ensures { λ r. ⌜ r ≡ idIf check id ⌝ }
+{
+    match check {
+        Checked::Accepted => IdAnswer::Id(id),
+        Checked::Refused(cause) => IdAnswer::Refused(cause),
+    }
+}
+
 // The id of an element of an axis. The constraint axis answers every index.
 pub fn element_id(
     n: usize,
@@ -158,7 +169,7 @@ pub fn element_id(
     );
     let check = or_else(records, has);
     if is_refused(check) {
-        return inner::ids::refused(check);
+        return id_if(check, ElementId::Constraint(0));
     }
     IdAnswer::Id(id_of(n, m, k, s, bytes, axis, index))
 }

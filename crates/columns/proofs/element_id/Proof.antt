@@ -14,7 +14,7 @@ returns : tie.Need-returns
 returns c =
     let a = c .before .before .before .before .before .before .before .before .args in
     let e : c .before .before .before .or-else .result ≡ idCheck (a .n) (a .m) (a .k) (a .s) (a .bytes .now) (a .axis) (a .index) = cc in
-    c .refused .ensures ∙ rw e (id-refused _ _ _ (refused-by e (c .before .before .is-refused .ensures) (c .before .if1 .taken)))
+    c .id-if .ensures ∙ rw e (id-refused _ _ _ (refused-by e (c .before .before .is-refused .ensures) (c .before .if1 .taken)))
 
 id-of-requires : tie.Need-id-of-requires
 id-of-requires c κs =

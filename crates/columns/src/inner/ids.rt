@@ -1,13 +1,11 @@
 // The ids of elements.
 use crate::ElementId;
-use crate::IdAnswer;
 use interface::Axis;
 use records::inner::id;
-use refusals::Checked;
 ghost use mathlib.Core.Path.{_≡_};
 ghost use mathlib.Core.Bool.{true};
 ghost use Rattle.records.specs.Network.{networkOf, Accepted};
-ghost use Rattle.columns.specs.Ids.{elementId, onAxis, idIf};
+ghost use Rattle.columns.specs.Ids.{elementId, onAxis};
 
 pub fn on_axis(n: usize, m: usize, k: usize, axis: Axis, i: usize) -> bool
     ensures { λ r. ⌜ r ≡ onAxis n m k axis i ⌝ }
@@ -38,14 +36,5 @@ pub fn id_of(
         Axis::Branch => ElementId::Branch(id(bytes, n + i)),
         Axis::Generator => ElementId::Generator(id(bytes, n + m + i)),
         Axis::Constraint => ElementId::Constraint(i as u64),
-    }
-}
-
-pub fn refused(check: Checked) -> IdAnswer
-    ensures { λ r. ⌜ r ≡ idIf check (ElementId.Constraint 0) ⌝ }
-{
-    match check {
-        Checked::Accepted => IdAnswer::Id(ElementId::Constraint(0)),
-        Checked::Refused(cause) => IdAnswer::Refused(cause),
     }
 }
