@@ -1,0 +1,87 @@
+-- `read_socwr` of problem/conic.rs: the lists of x, the prices and the objective.
+use Prim.Native.Nat.{ℕ, _+_, _*_}
+use mathlib.Core.List.{List, [], _++_}
+use lib.Dec.{eqb, leb}
+use lib.ListN.{length, getD}
+use lib.Ieee.{Float, nan, neg}
+use Rattle.lists.specs.UpTo.{listed}
+use Rattle.refusals.specs.Refusals.{_orElse_, refuseUnless, numberOf, valueOf}
+use Rattle.refusals.specs.declared.Checked.{Checked}
+use Rattle.refusals.specs.declared.Checked.the-variants.{Accepted, Refused}
+use Rattle.refusals.specs.declared.Refusal.the-variants.{SolutionLength, OutputTooShort}
+use Rattle.records.specs.AcNetwork.{AcNetwork}
+use Rattle.records.specs.Network.{networkOf}
+use Rattle.records.specs.Check.{checkOf}
+use Rattle.numbering.specs.Numbering.{nvar, ncon, columnNumber, rowNumber}
+use Rattle.numbering.specs.declared.ColumnName.{ColumnName}
+use Rattle.numbering.specs.declared.RowName.the-variants.{Pbal, Qbal}
+use Rattle.rows.specs.Rows.{zero64}
+use Rattle.reading.specs.Cost.{totalCost}
+use Rattle.reading.specs.declared.Objective.{Objective}
+use Rattle.reading.specs.declared.Objective.the-variants.{Feasibility, NetworkGeneratorCost, Other}
+use Rattle.reading.specs.declared.Scalar.{Scalar}
+use Rattle.reading.specs.declared.Scalar.the-variants as Scalar
+
+module _ (G : AcNetwork Float) where
+  -- 6: "x not nvar long, or z not ncon long", "0 for x, else 1"
+  unfoldable pub xCause : List Float → Checked
+  xCause x = refuseUnless (eqb (length x) (nvar G)) (SolutionLength 0)
+
+  unfoldable pub zCause : List Float → Checked
+  zCause z = refuseUnless (eqb (length z) (ncon G)) (SolutionLength 1)
+
+  -- `(0..count).map(|i| x[lay.col_..(i)])`
+  unfoldable pub valuesAt : List Float → (ℕ → ColumnName) → ℕ → List Float
+  valuesAt x column count = listed count (λ i. getD x (columnNumber G (column i)) nan)
+
+  -- "the active prices fill the first n places and the reactive prices the next n. They are negated z."
+  unfoldable pub priceList : List Float → List Float
+  priceList z = listed (G .n) (λ i. neg (getD z (rowNumber G (Pbal i)) nan)) ++ listed (G .n) (λ i. neg (getD z (rowNumber G (Qbal i)) nan))
+
+  -- "0 for feasibility; the sum of `generator_cost` in order for generator cost; else the solver's number"
+  unfoldable pub objectiveOf : Objective → List Float → Float → Float
+  objectiveOf Feasibility x solver = zero64
+  objectiveOf NetworkGeneratorCost x solver = totalCost G x
+  objectiveOf Other x solver = solver
+
+-- "A refused reading hands back the empty part"
+unfoldable pub partIf : Checked → List Float → List Float
+partIf Accepted xs = xs
+partIf (Refused cause) xs = []
+
+unfoldable pub scalarIf : Checked → Float → Scalar
+scalarIf Accepted v = Scalar.Value v
+scalarIf (Refused cause) v = Scalar.Refused cause
+
+-- ---- on counts and records
+module _ (n m k s : ℕ) (b : List ℕ) where
+  -- of what a part is handed, records and x: "a separate check says whether it was refused"
+  unfoldable pub partCheck : List Float → Checked
+  partCheck x = checkOf n m k s b orElse xCause (networkOf n m k s b) x
+
+  unfoldable pub readingCheck : List Float → List Float → Checked
+  readingCheck x z = checkOf n m k s b orElse xCause (networkOf n m k s b) x orElse zCause (networkOf n m k s b) z
+
+  unfoldable pub partOf : List Float → (ℕ → ColumnName) → ℕ → List Float
+  partOf x column count = partIf (partCheck x) (valuesAt (networkOf n m k s b) x column count)
+
+  -- 10: "an output slice too short", the length needed 2n
+  unfoldable pub pricesCheck : List Float → ℕ → Checked
+  pricesCheck z room =
+      checkOf n m k s b orElse zCause (networkOf n m k s b) z orElse refuseUnless (leb (n + n) room) (OutputTooShort (n + n))
+
+  unfoldable pub objectiveAnswer : Objective → List Float → Float → Scalar
+  objectiveAnswer objective x solver = scalarIf (partCheck x) (objectiveOf (networkOf n m k s b) objective x solver)
+
+-- ---- the number and the values of a scalar answer: 0, 0 and the result, or the cause's and 0.0
+abbrev pub scalarNumber : Scalar → ℕ
+scalarNumber (Scalar.Value v) = 0
+scalarNumber (Scalar.Refused cause) = numberOf cause
+
+abbrev pub scalarValue : Scalar → ℕ
+scalarValue (Scalar.Value v) = 0
+scalarValue (Scalar.Refused cause) = valueOf cause
+
+abbrev pub scalarResult : Scalar → Float
+scalarResult (Scalar.Value v) = v
+scalarResult (Scalar.Refused cause) = zero64
