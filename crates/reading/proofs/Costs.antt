@@ -83,6 +83,6 @@ module _ (n m k s : ℕ) (b : List ℕ) where
   total-more x g first count sum v e f h w =
       let at : g ≡ columnNumber (networkOf n m k s b) (Pg g) = omega arith in
       let cost : v ≡ generatorCost (networkOf n m k s b) g (getD x (columnNumber (networkOf n m k s b) (Pg g)) nan)
-          = w ∙ rw (e, f) (ap (λ (i : ℕ). generatorCost (networkOf n m k s b) g (getD x i nan)) at) in
+      = w ∙ rw (e, f) (ap (λ (i : ℕ). generatorCost (networkOf n m k s b) g (getD x i nan)) at) in
       ap₂ (add binary64) h cost
       ∙ sym (upTo-more (add binary64) (neg zero64) (λ g. generatorCost (networkOf n m k s b) g (getD x (columnNumber (networkOf n m k s b) (Pg g)) nan)) g)

@@ -1,4 +1,4 @@
--- Two halves of a list, each negated from a part of z: what `fill::negate_both` leaves. Assumes nothing.
+-- Two halves of a list, each negated from a part of z: what `inner::fill::negate_both` leaves. Assumes nothing.
 use Prim.Native.Nat.{ℕ, _+_, _-_, _≤_, _<_}
 use mathlib.Core.Path.{_≡_, refl, sym, _∙_, ap}
 use mathlib.Core.List.{List, [], _∷_, _++_, append-assoc}

@@ -1,11 +1,34 @@
 // The reading of a solution: the lists of x as parts of it, the prices, the objective.
 use refusals::Refusal;
 
-mod cost;
-mod fill;
+mod checks;
+mod inner;
+mod objectives;
+mod parts;
+mod pricing;
 
-// The objective of the network: `PreparedObjective` of the Rust. Other is any that the solver alone knows.
-pub enum Objective {
+pub use checks::part_check;
+pub use checks::reading_check;
+pub use objectives::objective;
+pub use objectives::objective_of_code;
+pub use parts::part;
+pub use pricing::prices;
+
+// The lists of `SocWrSolution` that x holds.
+pub enum SolutionList {
+    Pg,
+    Qg,
+    W,
+    Wr,
+    Wi,
+    Pf,
+    Pt,
+    Qf,
+    Qt,
+}
+
+// The network's objective. Other is any whose value the solver alone knows.
+pub enum PreparedObjective {
     Feasibility,
     NetworkGeneratorCost,
     Other,
