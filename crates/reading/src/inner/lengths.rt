@@ -39,5 +39,11 @@ pub fn solution_cause(
     requires { ⌜ Accepted n m k s (now bytes) ⌝ }
     ensures { λ r. ⌜ r ≡ xCause (networkOf n m k s (now (bytes .entry))) (now (x .entry)) orElse zCause (networkOf n m k s (now (bytes .entry))) (now (z .entry)) ⌝ }
 {
-    or_else(x_cause(n, m, k, s, bytes, x), z_cause(n, m, k, s, bytes, z))
+    let l = numbering::inner::layout(n, m, k, s, bytes);
+    let nvar = numbering::inner::nvar(l) as usize;
+    let ncon = numbering::inner::ncon(l) as usize;
+    or_else(
+        refuse_unless(x.len() == nvar, Refusal::SolutionLength(0)),
+        refuse_unless(z.len() == ncon, Refusal::SolutionLength(1)),
+    )
 }

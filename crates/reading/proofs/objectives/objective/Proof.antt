@@ -1,3 +1,4 @@
+-- `reading::objectives::objective` meets its contract. Assumes nothing.
 use Rattle.reading.specs.declared.Scalar.the-variants as Scalar
 use mathlib.Core.Path.{sym, _∙_, ap}
 use native.Mathlib.Omega.{arith}
@@ -7,46 +8,17 @@ use Rattle.reading.proofs.Readings.{part-went, no-scalar, scalar-value}
 use borrow.Author.Needs.{needs}
 use Rattle.reading.proofs.objectives.objective.Statement.{statement}
 use Rattle.reading.proofs.objectives.objective.Tie as tie
-use Rattle.reading.proofs.objectives.objective.Reads as reads
-use Rattle.reading.proofs.objectives.objective.Lts as lts
-use Rattle.reading.proofs.checks.part_check.Reads as part-check-reads
-use Rattle.reading.proofs.objectives.scalar_if.Reads as scalar-if-reads
-use Rattle.reading.proofs.objectives.value.Reads as value-reads
-use Rattle.refusals.proofs.is_refused.Reads as is-refused-reads
 
--- src/objectives.rt:60:9
-part-check-requires : tie.Need-part-check-requires
-part-check-requires c κs = search needs
-
--- src/objectives.rt:61:8
-is-refused-requires : tie.Need-is-refused-requires
-is-refused-requires c κs = search needs
-
--- src/objectives.rt:62:9
-scalar-if-requires : tie.Need-scalar-if-requires
-scalar-if-requires c κs = search needs
-
--- src/objectives.rt:62:9
 returns : tie.Need-returns
 unfolding objectiveAnswer
 returns c = let h = sym (c .before .before .is-refused .ensures) ∙ c .before .if1 .taken in rw (← c .before .before .before .part-check .ensures) (c .scalar-if .ensures ∙ no-scalar _ _ _ h)
 
--- src/objectives.rt:64:19
 value-requires : tie.Need-value-requires
 value-requires c κs = let p = part-went _ _ _ _ _ _ (c .before .before .part-check .ensures) (sym (c .before .is-refused .ensures) ∙ c .if1 .left) in (p .0, omega (arith, p .1))
 
--- src/objectives.rt:48:1
 returns-2 : tie.Need-returns-2
 unfolding objectiveAnswer
 returns-2 c = let h = sym (c .before .before .is-refused .ensures) ∙ c .before .if1 .left in rw (← c .before .before .before .part-check .ensures) (ap Scalar.Value (c .value .ensures) ∙ sym (scalar-value _ (passed _ h)))
 
 pub objective-spec : {M : Type 1} → statement M
-objective-spec =
-    tie.close
-    (tie.spec
-    part-check-requires
-    is-refused-requires
-    scalar-if-requires
-    returns
-    value-requires
-    returns-2)
+objective-spec = tie.close (tie.spec (λ c κs. search needs) (λ c κs. search needs) (λ c κs. search needs) returns value-requires returns-2)

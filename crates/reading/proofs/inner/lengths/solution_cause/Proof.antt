@@ -1,28 +1,27 @@
+-- `reading::inner::lengths::solution_cause` meets its contract. Assumes nothing.
+use mathlib.Core.Path.{_∙_, ap₂}
+use Rattle.records.specs.Network.{networkOf}
+use Rattle.numbering.proofs.Layouts.{accepted-range}
+use Rattle.reading.proofs.Readings.{x-length, z-length}
 use borrow.Author.Needs.{needs}
 use Rattle.reading.proofs.inner.lengths.solution_cause.Statement.{statement}
 use Rattle.reading.proofs.inner.lengths.solution_cause.Tie as tie
-use Rattle.reading.proofs.inner.lengths.solution_cause.Reads as reads
-use Rattle.reading.proofs.inner.lengths.solution_cause.Lts as lts
-use Rattle.reading.proofs.inner.lengths.x_cause.Reads as x-cause-reads
-use Rattle.reading.proofs.inner.lengths.z_cause.Reads as z-cause-reads
-use Rattle.refusals.proofs.or_else.Reads as or-else-reads
 
--- src/inner/lengths.rt:42:13
-x-cause-requires : tie.Need-x-cause-requires
-x-cause-requires c κs = search needs
+nvar-requires : tie.Need-nvar-requires
+nvar-requires c κs = let a = c .before .before .before .before .args in rw (c .layout .ensures) (accepted-range (a .n) (a .m) (a .k) (a .s) (a .bytes .now) (c .before .before .before .before .pre))
 
--- src/inner/lengths.rt:42:44
-z-cause-requires : tie.Need-z-cause-requires
-z-cause-requires c κs = search needs
+ncon-requires : tie.Need-ncon-requires
+ncon-requires c κs = let a = c .before .before .before .before .before .args in rw (c .before .layout .ensures) (accepted-range (a .n) (a .m) (a .k) (a .s) (a .bytes .now) (c .before .before .before .before .before .pre))
 
--- src/inner/lengths.rt:42:5
-or-else-requires : tie.Need-or-else-requires
-or-else-requires c κs = search needs
-
--- src/inner/lengths.rt:30:1
 returns : tie.Need-returns
-returns c = cc
+returns c = let a = c .before .before .before .before .before .before .before .before .before .args in
+    let G = networkOf (a .n) (a .m) (a .k) (a .s) (a .bytes .now) in
+    c .or-else .ensures
+    ∙ ap₂ _orElse_ (c .before .before .refuse-unless .ensures ∙ x-length G (c .before .before .before .before .before .layout .result) (c .before .before .before .before .before .layout .ensures) (a .x .now) (c .before .before .before .before .nvar .result) (c .before .before .before .before .nvar .ensures))
+    (c .before .refuse-unless2 .ensures ∙ z-length G (c .before .before .before .before .before .layout .result) (c .before .before .before .before .before .layout .ensures) (c .before .before .before .before .before .before .before .before .before .pre .counts-add) (a .z .now) (c .before .before .before .ncon .result) (c .before .before .before .ncon .ensures))
 
 pub solution-cause-spec : {M : Type 1} → statement M
 solution-cause-spec =
-    tie.close (tie.spec x-cause-requires z-cause-requires or-else-requires returns)
+    tie.close
+    (tie.spec (λ c κs. search needs) nvar-requires (λ c. search needs) ncon-requires (λ c. search needs) (λ c κs. search needs) (λ c κs. search needs)
+    (λ c κs. search needs) returns)
