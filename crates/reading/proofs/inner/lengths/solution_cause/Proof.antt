@@ -1,5 +1,6 @@
 -- `reading::inner::lengths::solution_cause` meets its contract. Assumes nothing.
 use mathlib.Core.Path.{_∙_, ap₂}
+use Rattle.refusals.specs.Refusals.{_orElse_}
 use Rattle.records.specs.Network.{networkOf}
 use Rattle.numbering.proofs.Layouts.{accepted-range}
 use Rattle.reading.proofs.Readings.{x-length, z-length}
