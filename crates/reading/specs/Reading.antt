@@ -1,14 +1,14 @@
 -- `read_socwr` of problem/conic.rs: the lists of x, the prices and the objective.
 use Prim.Native.Nat.{ℕ, zero, suc, _+_}
 use mathlib.Core.List.{List, [], _++_}
-use lib.Dec.{eqb, leb, ltb}
+use lib.Dec.{eqb, ltb}
 use lib.ListN.{length, getD}
 use lib.Ieee.{Float, nan, neg}
 use Rattle.lists.specs.UpTo.{listed}
-use Rattle.refusals.specs.Refusals.{_orElse_, refuseUnless, numberOf, valueOf}
+use Rattle.refusals.specs.Refusals.{_orElse_, refuseUnless, roomFor, numberOf, valueOf}
 use Rattle.refusals.specs.declared.Checked.{Checked}
 use Rattle.refusals.specs.declared.Checked.the-variants.{Accepted, Refused}
-use Rattle.refusals.specs.declared.Refusal.the-variants.{SolutionLength, PastEnd, OutputTooShort}
+use Rattle.refusals.specs.declared.Refusal.the-variants.{SolutionLength, PastEnd}
 use Rattle.records.specs.AcNetwork.{AcNetwork}
 use Rattle.records.specs.Network.{networkOf}
 use Rattle.records.specs.Check.{checkOf}
@@ -101,7 +101,7 @@ module _ (n m k s : ℕ) (b : List ℕ) where
   -- 10: "an output slice too short", of the length needed, 2n
   unfoldable pub pricesCheck : List Float → ℕ → Checked
   pricesCheck z room =
-      checkOf n m k s b orElse zCause (networkOf n m k s b) z orElse refuseUnless (leb (n + n) room) (OutputTooShort (n + n))
+      checkOf n m k s b orElse zCause (networkOf n m k s b) z orElse roomFor (n + n) room
 
   unfoldable pub objectiveAnswer : PreparedObjective → List Float → Float → Scalar
   objectiveAnswer objective x solver = scalarIf (partCheck x) (objectiveOf (networkOf n m k s b) objective x solver)

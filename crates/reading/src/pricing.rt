@@ -3,11 +3,10 @@ use crate::inner::fill;
 use crate::inner::lengths;
 use records::check_records;
 use refusals::Checked;
-use refusals::Refusal;
 use refusals::Written;
 use refusals::is_refused;
 use refusals::or_else;
-use refusals::refuse_unless;
+use refusals::room_for;
 use refusals::written_if;
 ghost use mathlib.Core.Path.{_≡_};
 ghost use Prim.Native.Nat.{_+_};
@@ -32,10 +31,7 @@ fn prices_check(
         return records;
     }
     let need = n + n;
-    or_else(
-        lengths::z_cause(n, m, k, s, bytes, z),
-        refuse_unless(need <= room, Refusal::OutputTooShort(need as u64)),
-    )
+    or_else(lengths::z_cause(n, m, k, s, bytes, z), room_for(need, room))
 }
 
 // The active prices to the first n places, the reactive prices to the next n.

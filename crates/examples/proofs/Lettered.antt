@@ -1,0 +1,59 @@
+-- Every line of the table holds, by computation. Assumes nothing.
+use mathlib.Core.Path.{refl}
+use lib.Ieee.{ofBits, toBits, neg, mul, div, add, sub, ne, eq, le, lt}
+use Rattle.lists.specs.UpTo.{upTo}
+use Rattle.refusals.specs.Refusals.{_orElse_, refuseUnless}
+use Rattle.records.specs.Bytes.{le16, le32, le64}
+use Rattle.records.specs.Fields.{kindOf, flagsOf, countOf, idOf, firstOf, secondOf, bitsOf, floatOf, bit0, bit1, gOf, bOf, gFrOf, bFrOf, gToOf, bToOf, tapOf, limitedOf, piecewiseOf, segmentsOf, angledOf}
+use Rattle.records.specs.Network.{branchOf, segmentRecord}
+use Rattle.records.specs.Check.{countCause, lengthCause, zeroFloats, busForm, branchForm, genForm, segmentForm, busCause, branchCause, genCause, segmentCause, pick, recordCause, recordCauses, countSum, sumCause, checkOf}
+use Rattle.numbering.specs.Lookups.{asked, columnAsked, rowAsked}
+use Rattle.rows.specs.Rows.{kept, terms, b}
+use Rattle.rows.specs.Program.{quadratic, sumOf, slack}
+use Rattle.kkt.specs.Kkt.{kktOf, kkt}
+use Rattle.examples.specs.Networks.{q, curve}
+use Rattle.examples.specs.Table.{letterA, letterB, letterC, letterD, letterE, letterF, letterG, letterH, letterI, letterJ, table, Right, AllRight}
+
+rightA : Right letterA
+unfolding letterA q curve upTo _orElse_ refuseUnless le16 le32 le64 kindOf flagsOf countOf idOf firstOf secondOf bitsOf floatOf bit0 bit1 gOf bOf gFrOf bFrOf gToOf bToOf tapOf limitedOf piecewiseOf segmentsOf angledOf branchOf segmentRecord countCause lengthCause zeroFloats busForm branchForm genForm segmentForm busCause branchCause genCause segmentCause pick recordCause recordCauses countSum sumCause checkOf asked columnAsked rowAsked kept terms b quadratic sumOf slack kktOf kkt ofBits toBits neg mul div add sub ne eq le lt
+rightA = refl
+
+rightB : Right letterB
+unfolding letterB q curve upTo _orElse_ refuseUnless le16 le32 le64 kindOf flagsOf countOf idOf firstOf secondOf bitsOf floatOf bit0 bit1 gOf bOf gFrOf bFrOf gToOf bToOf tapOf limitedOf piecewiseOf segmentsOf angledOf branchOf segmentRecord countCause lengthCause zeroFloats busForm branchForm genForm segmentForm busCause branchCause genCause segmentCause pick recordCause recordCauses countSum sumCause checkOf asked columnAsked rowAsked kept terms b quadratic sumOf slack kktOf kkt ofBits toBits neg mul div add sub ne eq le lt
+rightB = refl
+
+rightC : Right letterC
+unfolding letterC q curve upTo _orElse_ refuseUnless le16 le32 le64 kindOf flagsOf countOf idOf firstOf secondOf bitsOf floatOf bit0 bit1 gOf bOf gFrOf bFrOf gToOf bToOf tapOf limitedOf piecewiseOf segmentsOf angledOf branchOf segmentRecord countCause lengthCause zeroFloats busForm branchForm genForm segmentForm busCause branchCause genCause segmentCause pick recordCause recordCauses countSum sumCause checkOf asked columnAsked rowAsked kept terms b quadratic sumOf slack kktOf kkt ofBits toBits neg mul div add sub ne eq le lt
+rightC = refl
+
+rightD : Right letterD
+unfolding letterD q curve upTo _orElse_ refuseUnless le16 le32 le64 kindOf flagsOf countOf idOf firstOf secondOf bitsOf floatOf bit0 bit1 gOf bOf gFrOf bFrOf gToOf bToOf tapOf limitedOf piecewiseOf segmentsOf angledOf branchOf segmentRecord countCause lengthCause zeroFloats busForm branchForm genForm segmentForm busCause branchCause genCause segmentCause pick recordCause recordCauses countSum sumCause checkOf asked columnAsked rowAsked kept terms b quadratic sumOf slack kktOf kkt ofBits toBits neg mul div add sub ne eq le lt
+rightD = refl
+
+rightE : Right letterE
+unfolding letterE q curve upTo _orElse_ refuseUnless le16 le32 le64 kindOf flagsOf countOf idOf firstOf secondOf bitsOf floatOf bit0 bit1 gOf bOf gFrOf bFrOf gToOf bToOf tapOf limitedOf piecewiseOf segmentsOf angledOf branchOf segmentRecord countCause lengthCause zeroFloats busForm branchForm genForm segmentForm busCause branchCause genCause segmentCause pick recordCause recordCauses countSum sumCause checkOf asked columnAsked rowAsked kept terms b quadratic sumOf slack kktOf kkt ofBits toBits neg mul div add sub ne eq le lt
+rightE = refl
+
+rightF : Right letterF
+unfolding letterF q curve upTo _orElse_ refuseUnless le16 le32 le64 kindOf flagsOf countOf idOf firstOf secondOf bitsOf floatOf bit0 bit1 gOf bOf gFrOf bFrOf gToOf bToOf tapOf limitedOf piecewiseOf segmentsOf angledOf branchOf segmentRecord countCause lengthCause zeroFloats busForm branchForm genForm segmentForm busCause branchCause genCause segmentCause pick recordCause recordCauses countSum sumCause checkOf asked columnAsked rowAsked kept terms b quadratic sumOf slack kktOf kkt ofBits toBits neg mul div add sub ne eq le lt
+rightF = refl
+
+rightG : Right letterG
+unfolding letterG q curve upTo _orElse_ refuseUnless le16 le32 le64 kindOf flagsOf countOf idOf firstOf secondOf bitsOf floatOf bit0 bit1 gOf bOf gFrOf bFrOf gToOf bToOf tapOf limitedOf piecewiseOf segmentsOf angledOf branchOf segmentRecord countCause lengthCause zeroFloats busForm branchForm genForm segmentForm busCause branchCause genCause segmentCause pick recordCause recordCauses countSum sumCause checkOf asked columnAsked rowAsked kept terms b quadratic sumOf slack kktOf kkt ofBits toBits neg mul div add sub ne eq le lt
+rightG = refl
+
+rightH : Right letterH
+unfolding letterH q curve upTo _orElse_ refuseUnless le16 le32 le64 kindOf flagsOf countOf idOf firstOf secondOf bitsOf floatOf bit0 bit1 gOf bOf gFrOf bFrOf gToOf bToOf tapOf limitedOf piecewiseOf segmentsOf angledOf branchOf segmentRecord countCause lengthCause zeroFloats busForm branchForm genForm segmentForm busCause branchCause genCause segmentCause pick recordCause recordCauses countSum sumCause checkOf asked columnAsked rowAsked kept terms b quadratic sumOf slack kktOf kkt ofBits toBits neg mul div add sub ne eq le lt
+rightH = refl
+
+rightI : Right letterI
+unfolding letterI q curve upTo _orElse_ refuseUnless le16 le32 le64 kindOf flagsOf countOf idOf firstOf secondOf bitsOf floatOf bit0 bit1 gOf bOf gFrOf bFrOf gToOf bToOf tapOf limitedOf piecewiseOf segmentsOf angledOf branchOf segmentRecord countCause lengthCause zeroFloats busForm branchForm genForm segmentForm busCause branchCause genCause segmentCause pick recordCause recordCauses countSum sumCause checkOf asked columnAsked rowAsked kept terms b quadratic sumOf slack kktOf kkt ofBits toBits neg mul div add sub ne eq le lt
+rightI = refl
+
+rightJ : Right letterJ
+unfolding letterJ q curve upTo _orElse_ refuseUnless le16 le32 le64 kindOf flagsOf countOf idOf firstOf secondOf bitsOf floatOf bit0 bit1 gOf bOf gFrOf bFrOf gToOf bToOf tapOf limitedOf piecewiseOf segmentsOf angledOf branchOf segmentRecord countCause lengthCause zeroFloats busForm branchForm genForm segmentForm busCause branchCause genCause segmentCause pick recordCause recordCauses countSum sumCause checkOf asked columnAsked rowAsked kept terms b quadratic sumOf slack kktOf kkt ofBits toBits neg mul div add sub ne eq le lt
+rightJ = refl
+
+pub lettered : AllRight table
+unfolding table
+lettered = (rightA, (rightB, (rightC, (rightD, (rightE, (rightF, (rightG, (rightH, (rightI, (rightJ, tt))))))))))
