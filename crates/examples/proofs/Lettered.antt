@@ -15,43 +15,43 @@ use Rattle.examples.specs.Networks.{q, curve}
 use Rattle.examples.specs.Table.{letterA, letterB, letterC, letterD, letterE, letterF, letterG, letterH, letterI, letterJ, table, Right, AllRight}
 
 rightA : Right letterA
-unfolding letterA q curve upTo _orElse_ refuseUnless le16 le32 le64 kindOf flagsOf countOf idOf firstOf secondOf bitsOf floatOf bit0 bit1 gOf bOf gFrOf bFrOf gToOf bToOf tapOf limitedOf piecewiseOf segmentsOf angledOf branchOf segmentRecord countCause lengthCause zeroFloats busForm branchForm genForm segmentForm busCause branchCause genCause segmentCause pick recordCause recordCauses countSum sumCause checkOf asked columnAsked rowAsked kept terms b quadratic sumOf slack kktOf kkt ofBits toBits neg mul div add sub ne eq le lt
+unfolding letterA q _orElse_ refuseUnless upTo le16 le32 le64 kindOf flagsOf countOf idOf firstOf secondOf bitsOf bit1 piecewiseOf pick zeroFloats countCause lengthCause busForm branchForm genForm segmentForm busCause branchCause genCause segmentCause recordCause recordCauses countSum sumCause checkOf bit0 limitedOf segmentsOf
 rightA = refl
 
 rightB : Right letterB
-unfolding letterB q curve upTo _orElse_ refuseUnless le16 le32 le64 kindOf flagsOf countOf idOf firstOf secondOf bitsOf floatOf bit0 bit1 gOf bOf gFrOf bFrOf gToOf bToOf tapOf limitedOf piecewiseOf segmentsOf angledOf branchOf segmentRecord countCause lengthCause zeroFloats busForm branchForm genForm segmentForm busCause branchCause genCause segmentCause pick recordCause recordCauses countSum sumCause checkOf asked columnAsked rowAsked kept terms b quadratic sumOf slack kktOf kkt ofBits toBits neg mul div add sub ne eq le lt
+unfolding letterB q _orElse_ refuseUnless upTo le16 le32 le64 kindOf flagsOf countOf idOf firstOf secondOf bitsOf bit1 piecewiseOf pick zeroFloats countCause lengthCause busForm branchForm genForm segmentForm busCause branchCause genCause segmentCause recordCause recordCauses countSum sumCause checkOf bit0 limitedOf segmentsOf
 rightB = refl
 
 rightC : Right letterC
-unfolding letterC q curve upTo _orElse_ refuseUnless le16 le32 le64 kindOf flagsOf countOf idOf firstOf secondOf bitsOf floatOf bit0 bit1 gOf bOf gFrOf bFrOf gToOf bToOf tapOf limitedOf piecewiseOf segmentsOf angledOf branchOf segmentRecord countCause lengthCause zeroFloats busForm branchForm genForm segmentForm busCause branchCause genCause segmentCause pick recordCause recordCauses countSum sumCause checkOf asked columnAsked rowAsked kept terms b quadratic sumOf slack kktOf kkt ofBits toBits neg mul div add sub ne eq le lt
+unfolding letterC _orElse_ refuseUnless upTo le16 le32 le64 kindOf flagsOf countOf idOf firstOf secondOf bitsOf bit1 piecewiseOf pick zeroFloats countCause lengthCause busForm branchForm genForm segmentForm busCause branchCause genCause segmentCause recordCause recordCauses countSum sumCause checkOf bit0 limitedOf segmentsOf
 rightC = refl
 
 rightD : Right letterD
-unfolding letterD q curve upTo _orElse_ refuseUnless le16 le32 le64 kindOf flagsOf countOf idOf firstOf secondOf bitsOf floatOf bit0 bit1 gOf bOf gFrOf bFrOf gToOf bToOf tapOf limitedOf piecewiseOf segmentsOf angledOf branchOf segmentRecord countCause lengthCause zeroFloats busForm branchForm genForm segmentForm busCause branchCause genCause segmentCause pick recordCause recordCauses countSum sumCause checkOf asked columnAsked rowAsked kept terms b quadratic sumOf slack kktOf kkt ofBits toBits neg mul div add sub ne eq le lt
+unfolding letterD curve _orElse_ refuseUnless upTo le16 le32 le64 kindOf flagsOf countOf idOf firstOf secondOf bitsOf bit1 piecewiseOf pick zeroFloats countCause lengthCause busForm branchForm genForm segmentForm busCause branchCause genCause segmentCause recordCause recordCauses countSum sumCause checkOf bit0 limitedOf segmentsOf asked columnAsked rowAsked
 rightD = refl
 
 rightE : Right letterE
-unfolding letterE q curve upTo _orElse_ refuseUnless le16 le32 le64 kindOf flagsOf countOf idOf firstOf secondOf bitsOf floatOf bit0 bit1 gOf bOf gFrOf bFrOf gToOf bToOf tapOf limitedOf piecewiseOf segmentsOf angledOf branchOf segmentRecord countCause lengthCause zeroFloats busForm branchForm genForm segmentForm busCause branchCause genCause segmentCause pick recordCause recordCauses countSum sumCause checkOf asked columnAsked rowAsked kept terms b quadratic sumOf slack kktOf kkt ofBits toBits neg mul div add sub ne eq le lt
+unfolding letterE curve _orElse_ refuseUnless upTo le16 le32 le64 kindOf flagsOf countOf idOf firstOf secondOf bitsOf bit1 piecewiseOf pick zeroFloats countCause lengthCause busForm branchForm genForm segmentForm busCause branchCause genCause segmentCause recordCause recordCauses countSum sumCause checkOf bit0 limitedOf segmentsOf asked columnAsked rowAsked
 rightE = refl
 
 rightF : Right letterF
-unfolding letterF q curve upTo _orElse_ refuseUnless le16 le32 le64 kindOf flagsOf countOf idOf firstOf secondOf bitsOf floatOf bit0 bit1 gOf bOf gFrOf bFrOf gToOf bToOf tapOf limitedOf piecewiseOf segmentsOf angledOf branchOf segmentRecord countCause lengthCause zeroFloats busForm branchForm genForm segmentForm busCause branchCause genCause segmentCause pick recordCause recordCauses countSum sumCause checkOf asked columnAsked rowAsked kept terms b quadratic sumOf slack kktOf kkt ofBits toBits neg mul div add sub ne eq le lt
+unfolding letterF q upTo le16 le32 le64 flagsOf countOf firstOf secondOf bitsOf bit1 piecewiseOf bit0 limitedOf segmentsOf floatOf gOf bOf gFrOf bFrOf gToOf bToOf tapOf angledOf branchOf kept terms b ofBits toBits neg mul div add sub ne eq le lt segmentRecord quadratic sumOf slack kktOf kkt
 rightF = refl
 
 rightG : Right letterG
-unfolding letterG q curve upTo _orElse_ refuseUnless le16 le32 le64 kindOf flagsOf countOf idOf firstOf secondOf bitsOf floatOf bit0 bit1 gOf bOf gFrOf bFrOf gToOf bToOf tapOf limitedOf piecewiseOf segmentsOf angledOf branchOf segmentRecord countCause lengthCause zeroFloats busForm branchForm genForm segmentForm busCause branchCause genCause segmentCause pick recordCause recordCauses countSum sumCause checkOf asked columnAsked rowAsked kept terms b quadratic sumOf slack kktOf kkt ofBits toBits neg mul div add sub ne eq le lt
+unfolding letterG _orElse_ refuseUnless upTo le16 le32 le64 kindOf flagsOf countOf idOf firstOf secondOf bitsOf bit1 piecewiseOf pick zeroFloats countCause lengthCause busForm branchForm genForm segmentForm busCause branchCause genCause segmentCause recordCause recordCauses countSum sumCause checkOf bit0 floatOf gOf bOf gFrOf bFrOf gToOf bToOf tapOf angledOf branchOf kept terms b ofBits toBits neg mul div add sub ne eq le lt
 rightG = refl
 
 rightH : Right letterH
-unfolding letterH q curve upTo _orElse_ refuseUnless le16 le32 le64 kindOf flagsOf countOf idOf firstOf secondOf bitsOf floatOf bit0 bit1 gOf bOf gFrOf bFrOf gToOf bToOf tapOf limitedOf piecewiseOf segmentsOf angledOf branchOf segmentRecord countCause lengthCause zeroFloats busForm branchForm genForm segmentForm busCause branchCause genCause segmentCause pick recordCause recordCauses countSum sumCause checkOf asked columnAsked rowAsked kept terms b quadratic sumOf slack kktOf kkt ofBits toBits neg mul div add sub ne eq le lt
+unfolding letterH q _orElse_ refuseUnless upTo le16 le32 le64 kindOf flagsOf countOf idOf firstOf secondOf bitsOf bit1 piecewiseOf pick zeroFloats countCause lengthCause busForm branchForm genForm segmentForm busCause branchCause genCause segmentCause recordCause recordCauses countSum sumCause checkOf bit0 floatOf gOf bOf gFrOf bFrOf gToOf bToOf tapOf angledOf branchOf kept terms b ofBits toBits neg mul div add sub ne eq le lt
 rightH = refl
 
 rightI : Right letterI
-unfolding letterI q curve upTo _orElse_ refuseUnless le16 le32 le64 kindOf flagsOf countOf idOf firstOf secondOf bitsOf floatOf bit0 bit1 gOf bOf gFrOf bFrOf gToOf bToOf tapOf limitedOf piecewiseOf segmentsOf angledOf branchOf segmentRecord countCause lengthCause zeroFloats busForm branchForm genForm segmentForm busCause branchCause genCause segmentCause pick recordCause recordCauses countSum sumCause checkOf asked columnAsked rowAsked kept terms b quadratic sumOf slack kktOf kkt ofBits toBits neg mul div add sub ne eq le lt
+unfolding letterI _orElse_ refuseUnless countCause checkOf
 rightI = refl
 
 rightJ : Right letterJ
-unfolding letterJ q curve upTo _orElse_ refuseUnless le16 le32 le64 kindOf flagsOf countOf idOf firstOf secondOf bitsOf floatOf bit0 bit1 gOf bOf gFrOf bFrOf gToOf bToOf tapOf limitedOf piecewiseOf segmentsOf angledOf branchOf segmentRecord countCause lengthCause zeroFloats busForm branchForm genForm segmentForm busCause branchCause genCause segmentCause pick recordCause recordCauses countSum sumCause checkOf asked columnAsked rowAsked kept terms b quadratic sumOf slack kktOf kkt ofBits toBits neg mul div add sub ne eq le lt
+unfolding letterJ ofBits toBits div
 rightJ = refl
 
 pub lettered : AllRight table
