@@ -1,0 +1,6 @@
+pub mod Formal
+pub mod RatioLaws
+pub mod OhmLaws
+pub mod BalanceLaws
+pub mod ConeLaws
+pub mod ZeroLaws

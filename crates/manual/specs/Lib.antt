@@ -1,0 +1,4 @@
+pub mod Matpower
+pub mod Slack
+pub mod Balance
+pub mod Clarabel

@@ -1,0 +1,1 @@
+// Whole numbers: the ring laws, a normaliser of polynomials, and order. No code.
