@@ -78,9 +78,9 @@ module _ (G : AcNetwork ℤ) (x : ColumnName → ℤ) where
       (ring (rowF (opposite (var 3)) (cell (Pg 0) (plain (var 2)) ∷ cell (Pg 1) (constant minusOne) ∷ [])) (gap (plus (times (var 2) (var 0)) (var 3)) (var 1))
       (x (Pg g) ∷ x (CostOf g) ∷ G .slope g t ∷ G .intercept g t ∷ []) tt)
 
-  -- an inactive row says nothing
-  pub wub-free : (i : ℕ) → G .bounded i ≡ false → Nonnegative (slack whole G x (Wub i))
-  wub-free i h = rw h (record { at-least = record { le = tt } })
+-- an inactive row: b is 1 and there are no cells, so that twice s is 2
+pub one-free : Nonnegative (pos 2 *ℤ pos 1 *ℤ pos 1 -ℤ pos 0)
+one-free = record { at-least = record { le = tt } }
 
 -- ---- the second-order cones
 -- the head and the norm, each with what it says
@@ -149,9 +149,3 @@ module _ (G : AcNetwork ℤ) (x : ColumnName → ℤ) where
       × (SecondOrder (slack whole G x (Thermal e 3)) (slack whole G x (Thermal e 4) ∷ slack whole G x (Thermal e 5) ∷ [])
       ↔ (pos 0 ≤ℤ G .rateA e) × ((x (Pt e) *ℤ x (Pt e) +ℤ x (Qt e) *ℤ x (Qt e)) ≤ℤ (G .rateA e *ℤ G .rateA e)))
   thermal-law e = (thermal-cone (G .rateA e) (x (Pf e)) (x (Qf e)), thermal-cone (G .rateA e) (x (Pt e)) (x (Qt e)))
-
--- ---- the objective: 1/2 x'Px + q'x of a generator with P = 2 cq and q = cl, twice
-pub objective-law : (cq cl p : ℤ) → p *ℤ (pos 2 *ℤ cq) *ℤ p +ℤ pos 2 *ℤ (cl *ℤ p) ≡ pos 2 *ℤ (cq *ℤ p *ℤ p +ℤ cl *ℤ p)
-objective-law cq cl p =
-    ring (plus (times (times (var 2) (times (num (pos 2)) (var 0))) (var 2)) (times (num (pos 2)) (times (var 1) (var 2))))
-    (times (num (pos 2)) (plus (times (times (var 0) (var 2)) (var 2)) (times (var 1) (var 2)))) (cq ∷ cl ∷ p ∷ []) tt

@@ -4,3 +4,5 @@ pub mod OhmLaws
 pub mod BalanceLaws
 pub mod ConeLaws
 pub mod ZeroLaws
+pub mod Cones
+pub mod Documents

@@ -5,30 +5,8 @@ use lib.IntN.{ℤ}
 use Rattle.rows.specs.Ops.{Ops, whole}
 use Rattle.ring.proofs.Ring.{E, var, ring}
 use Rattle.manual.proofs.Formal.{formal}
-use Rattle.manual.specs.Matpower.{Complex, Ratio, Line, _⊗_, square, tap, scale, yff, yft, ytf, ytt, mff, mft, mtf, mtt}
-
-pub data Entry : Type 0 where
-  ff ft tf tt′ : Entry
-
-module _ {A : Type 0} (o : Ops A) (l : Line A) where
-  abbrev pub entry : Entry → Ratio A
-  entry ff = yff o l
-  entry ft = yft o l
-  entry tf = ytf o l
-  entry tt′ = ytt o l
-
-  abbrev pub multiple : Entry → Complex A
-  multiple ff = mff o l
-  multiple ft = mft o l
-  multiple tf = mtf o l
-  multiple tt′ = mtt o l
-
-  -- 2 τ² times what stands over, and the multiple times what stands under
-  abbrev pub left : Entry → Complex A
-  left e = _⊗_ o (scale o l) (entry e .over)
-
-  abbrev pub right : Entry → Complex A
-  right e = _⊗_ o (multiple e) (entry e .under)
+use Rattle.manual.specs.Matpower.{Complex, Line, square, tap}
+use Rattle.manual.specs.Ratios.{Entry, ff, ft, tf, tt′, left, right}
 
 -- with τ² put as tr² + ti²
 abbrev squared : {A : Type 0} → Ops A → Line A → Line A

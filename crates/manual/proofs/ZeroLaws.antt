@@ -14,7 +14,8 @@ use Rattle.numbering.specs.declared.ColumnName.{ColumnName}
 use Rattle.numbering.specs.declared.RowName.the-variants.{Pbal, Qbal}
 use Rattle.manual.specs.Balance.{mismatch}
 use Rattle.manual.proofs.BalanceLaws.{pbal-law, qbal-law}
-use Rattle.manual.proofs.OhmLaws.{ohm-law, row-is, pointAt, lineOf, manual, held}
+use Rattle.manual.specs.Flows.{pointAt, lineOf, manual, held}
+use Rattle.manual.proofs.OhmLaws.{ohm-law, row-is}
 
 halved : (k : ℤ) → k +ℤ k ≡ pos 0 → k ≡ pos 0
 halved (pos n) h = let e : n + n ≡ 0 = ap natAbs h in ap pos (none n e)

@@ -1,12 +1,15 @@
--- The branch model of the MATPOWER manual, over complex numbers that are pairs over any operations:
---   Ybr = [ (ys + j bc/2) / τ²   -ys / (τ e^(-jθ)) ]     [i_f; i_t] = Ybr [v_f; v_t]     S_f = v_f conj(i_f)
---         [ -ys / (τ e^(jθ))     ys + j bc/2       ]                                     S_t = v_t conj(i_t)
+-- The MATPOWER User's Manual, chapter 3 'Modeling', on complex numbers that are pairs over any operations. Section 3.2 'Branches':
+--   (3.1)  [i_f; i_t] = Ybr [v_f; v_t]
+--   (3.2)  Ybr = [ (ys + j bc/2) / τ²   -ys / (τ e^(-jθ)) ]
+--                [ -ys / (τ e^(jθ))     ys + j bc/2       ]
+-- and section 3.6 'Network Equations', for one branch: (3.16) S_f = v_f conj(i_f), (3.17) S_t = v_t conj(i_t).
 use Rattle.rows.specs.Ops.{Ops}
 
 pub record Complex (A : Type 0) : Type 0 where
   pub re : A
   pub im : A
 
+-- a fraction that is not worked out
 pub record Ratio (A : Type 0) : Type 0 where
   pub over : Complex A
   pub under : Complex A
@@ -73,7 +76,7 @@ module _ {A : Type 0} (o : Ops A) where
     abbrev pub tapBack : Complex A
     tapBack = complex (l .tr) (neg (l .ti))
 
-    -- ---- Ybr as in the manual, with the half multiplied out
+    -- ---- (3.2), with the half of bc multiplied out
     abbrev pub yff : Ratio A
     yff = ends ⊘ (two ⊗ real (l .tm2))
 
@@ -86,7 +89,7 @@ module _ {A : Type 0} (o : Ops A) where
     abbrev pub ytt : Ratio A
     ytt = ends ⊘ two
 
-    -- ---- 2 τ² Ybr, where 1 / e^(-jθ) is e^(jθ)
+    -- ---- 2 τ² times (3.2): each denominator multiplied out, and "the manual's 1/e^(-jθ) read as e^(jθ)"
     abbrev pub scale : Complex A
     scale = two ⊗ real (l .tm2)
 
@@ -102,7 +105,7 @@ module _ {A : Type 0} (o : Ops A) where
     abbrev pub mtt : Complex A
     mtt = real (l .tm2) ⊗ ends
 
-    -- 2 τ² S_f and 2 τ² S_t
+    -- 2 τ² times (3.16) and (3.17), with the currents of (3.1)
     abbrev pub sf : Complex A → Complex A → Complex A
     sf vf vt = vf ⊗ conj (mff ⊗ vf ⊕ mft ⊗ vt)
 

@@ -1,4 +1,5 @@
--- 2 tm2 times a row's sum and times its s = b - A x, over any operations: the half and the denominator are multiplied out. x holds the columns' values.
+-- Clarabel's s = b - A x of a row, times 2 tm2, so that "each denominator and each half" is multiplied out: the product's own cells and b
+-- (`Rows.cells`, `Rows.rhs`), read over any operations. x holds the columns' values.
 use mathlib.Core.List.{List, [], _∷_}
 use Rattle.rows.specs.Ops.{Ops}
 use Rattle.records.specs.AcNetwork.{AcNetwork}
@@ -10,6 +11,7 @@ module _ {A : Type 0} (o : Ops A) (tm2 : A) where
   infixl 70 _*_
   open Ops o using (two, neg, _*_)
 
+  -- 2 tm2 times a coefficient
   abbrev pub scaled : Coefficient A → A
   scaled (plain a) = two * tm2 * a
   scaled (over a) = two * a
