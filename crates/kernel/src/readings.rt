@@ -1,8 +1,8 @@
 // Reading.
 use crate::Answer;
+use crate::Scalar;
 use crate::checked_answer;
 use crate::written_answer;
-use reading::Scalar;
 use refusals::number_of;
 use refusals::value_of;
 ghost use mathlib.Core.Path.{_≡_};
@@ -10,32 +10,44 @@ ghost use Prim.Native.Nat.{_+_};
 ghost use lib.ListN.{length};
 ghost use Rattle.refusals.specs.Refusals.{writtenIf, leftIn};
 ghost use Rattle.records.specs.Network.{networkOf};
-ghost use Rattle.reading.specs.Reading.{readingCheck, pricesCheck, priceList, codeAnswer};
-ghost use Rattle.kernel.specs.Answers.{checkedAnswer, writtenAnswer};
-ghost use Rattle.kernel.specs.Scalars.{scalarAnswer};
+ghost use Rattle.reading.specs.Reading.{readingCheck, pricesCheck, priceList, codeAnswer, scalarNumber, scalarValue, scalarResult};
+ghost use Rattle.kernel.specs.Answers.{CheckedAnswer, WrittenAnswer};
+ghost use Rattle.kernel.specs.Scalars.{ScalarAnswer};
 
-// As Answer, with a result, 0.0 on a refusal.
-#[repr(C)]
-pub struct ScalarAnswer {
-    pub number: u64,
-    pub value: u64,
-    pub result: f64,
-}
-
-fn scalar_answer(a: Scalar) -> ScalarAnswer
-    ensures { λ r. ⌜ r ≡ scalarAnswer a ⌝ }
+fn scalar_number(a: reading::Scalar) -> u64
+    ensures { λ r. ⌜ r ≡ scalarNumber a ⌝ }
 {
     match a {
-        Scalar::Value(result) => ScalarAnswer {
-            number: 0,
-            value: 0,
-            result,
-        },
-        Scalar::Refused(cause) => ScalarAnswer {
-            number: number_of(cause),
-            value: value_of(cause),
-            result: 0.0,
-        },
+        reading::Scalar::Value(_) => 0,
+        reading::Scalar::Refused(cause) => number_of(cause),
+    }
+}
+
+fn scalar_value(a: reading::Scalar) -> u64
+    ensures { λ r. ⌜ r ≡ scalarValue a ⌝ }
+{
+    match a {
+        reading::Scalar::Value(_) => 0,
+        reading::Scalar::Refused(cause) => value_of(cause),
+    }
+}
+
+fn scalar_result(a: reading::Scalar) -> f64
+    ensures { λ r. ⌜ r ≡ scalarResult a ⌝ }
+{
+    match a {
+        reading::Scalar::Value(result) => result,
+        reading::Scalar::Refused(_) => 0.0,
+    }
+}
+
+fn scalar_answer(a: reading::Scalar) -> Scalar
+    ensures { λ r. ⌜ ScalarAnswer a r ⌝ }
+{
+    Scalar {
+        number: scalar_number(a),
+        value: scalar_value(a),
+        result: scalar_result(a),
     }
 }
 
@@ -49,7 +61,7 @@ pub extern "C" fn socwr_reading_check(
     x: &[f64],
     z: &[f64],
 ) -> Answer
-    ensures { λ r. ⌜ r ≡ checkedAnswer (readingCheck n m k s (now (records .entry)) (now (x .entry)) (now (z .entry))) ⌝ }
+    ensures { λ r. ⌜ CheckedAnswer (readingCheck n m k s (now (records .entry)) (now (x .entry)) (now (z .entry))) r ⌝ }
 {
     checked_answer(reading::reading_check(
         n as usize,
@@ -72,7 +84,7 @@ pub extern "C" fn socwr_prices(
     z: &[f64],
     prices: &mut [f64],
 ) -> Answer
-    ensures { λ r. ⌜ r ≡ writtenAnswer (writtenIf (pricesCheck n m k s (now (records .entry)) (now (z .entry)) (length (now (prices .entry)))) (n + n)) ⌝ }
+    ensures { λ r. ⌜ WrittenAnswer (writtenIf (pricesCheck n m k s (now (records .entry)) (now (z .entry)) (length (now (prices .entry)))) (n + n)) r ⌝ }
     ensures { λ _. ⌜ now (prices .exit) ≡ leftIn (pricesCheck n m k s (now (records .entry)) (now (z .entry)) (length (now (prices .entry)))) (priceList (networkOf n m k s (now (records .entry))) (now (z .entry))) (now (prices .entry)) ⌝ }
 {
     written_answer(reading::prices(
@@ -96,8 +108,8 @@ pub extern "C" fn socwr_objective(
     objective: u64,
     x: &[f64],
     solver: f64,
-) -> ScalarAnswer
-    ensures { λ r. ⌜ r ≡ scalarAnswer (codeAnswer n m k s (now (records .entry)) objective (now (x .entry)) solver) ⌝ }
+) -> Scalar
+    ensures { λ r. ⌜ ScalarAnswer (codeAnswer n m k s (now (records .entry)) objective (now (x .entry)) solver) r ⌝ }
 {
     scalar_answer(reading::objective_of_code(
         n as usize,

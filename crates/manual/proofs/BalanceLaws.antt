@@ -6,9 +6,9 @@ use mathlib.Core.List.{List, [], _∷_, _++_}
 use lib.Dec.{eqb}
 use Rattle.lists.specs.UpTo.{upTo, when}
 use lib.IntN.{ℤ, pos, negℤ, _+ℤ_, _-ℤ_, _*ℤ_, +ℤ-idl, +ℤ-assoc, *ℤ-zero}
-use Rattle.ring.proofs.Whole.{mul-add}
+use Rattle.ring.specs.Whole.{mul-add}
 use Rattle.rows.specs.Ops.{Ops, whole}
-use Rattle.ring.proofs.Ring.{E, var, num, opposite, times, ring}
+use Rattle.ring.specs.Ring.{E, var, num, opposite, times, ring}
 use Rattle.manual.proofs.Formal.{formal}
 use Rattle.rows.specs.Rows.{Coefficient, plain, constant, Constant, one, minusOne, Cell, cell, hits}
 use Rattle.records.specs.AcNetwork.{AcNetwork}

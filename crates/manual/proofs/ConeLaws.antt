@@ -8,9 +8,9 @@ use lib.Dec.{ltb}
 use lib.IntN.{ℤ, pos, negℤ, _+ℤ_, _-ℤ_, _*ℤ_}
 use lib.Signed.{_≤ℤ_}
 use Rattle.rows.specs.Ops.{whole}
-use Rattle.ring.proofs.Ring.{E, var, num, plus, minus, times, opposite, ring}
+use Rattle.ring.specs.Ring.{E, var, num, plus, minus, times, opposite, ring}
 use Rattle.manual.proofs.Formal.{formal}
-use Rattle.ring.proofs.Order.{by-twice, by-fourfold}
+use Rattle.ring.specs.Order.{by-twice, by-fourfold}
 use Rattle.manual.specs.Clarabel.{SecondOrder, Nonnegative, squares}
 use Rattle.rows.specs.Rows.{Coefficient, plain, constant, Constant, one, minusOne, half, minusHalf, Cell, cell, ends}
 use Rattle.records.specs.AcNetwork.{AcNetwork}

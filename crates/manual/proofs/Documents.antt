@@ -6,7 +6,7 @@ use Rattle.records.specs.AcNetwork.{AcNetwork}
 use Rattle.numbering.specs.declared.ColumnName.{ColumnName}
 use Rattle.numbering.specs.declared.RowName.{RowName}
 use Rattle.rows.specs.Ops.{Ops, whole}
-use Rattle.ring.proofs.Ring.{E, var, ring}
+use Rattle.ring.specs.Ring.{E, var, ring}
 use Rattle.manual.proofs.Formal.{formal}
 use Rattle.manual.specs.Matpower.{Complex, _⊗_, conj, real, square}
 use Rattle.manual.specs.Slack.{slack}

@@ -1,1 +1,1 @@
-// Whole numbers: the ring laws, a normaliser of polynomials, and order. No code.
+// Whole numbers: polynomial identities that are decided by computing, and the order.
