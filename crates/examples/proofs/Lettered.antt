@@ -11,8 +11,10 @@ use Rattle.numbering.specs.Lookups.{asked, columnAsked, rowAsked}
 use Rattle.rows.specs.Rows.{kept, terms, b}
 use Rattle.rows.specs.Program.{quadratic, sumOf, slack}
 use Rattle.kkt.specs.Kkt.{kktOf, kkt}
+use Rattle.columns.specs.Stores.{storedAll}
+use Rattle.columns.specs.Jacobian.{inTurn, stores, jacobian}
 use Rattle.examples.specs.Networks.{q, curve}
-use Rattle.examples.specs.Table.{letterA, letterB, letterC, letterD, letterE, letterF, letterG, letterH, letterI, letterJ, table, Right, AllRight}
+use Rattle.examples.specs.Table.{letterA, letterB, letterC, letterD, letterE, letterF, letterG, letterH, letterI, letterJ, letterK, table, Right, AllRight}
 
 rightA : Right letterA
 unfolding letterA q _orElse_ refuseUnless upTo le16 le32 le64 kindOf flagsOf countOf idOf firstOf secondOf bitsOf bit1 piecewiseOf pick zeroFloats countCause lengthCause busForm branchForm genForm segmentForm busCause branchCause genCause segmentCause recordCause recordCauses countSum sumCause checkOf bit0 limitedOf segmentsOf
@@ -54,6 +56,10 @@ rightJ : Right letterJ
 unfolding letterJ ofBits toBits div
 rightJ = refl
 
+rightK : Right letterK
+unfolding letterK q _orElse_ refuseUnless upTo le16 le32 le64 kindOf flagsOf countOf idOf firstOf secondOf bitsOf bit1 piecewiseOf pick zeroFloats countCause lengthCause busForm branchForm genForm segmentForm busCause branchCause genCause segmentCause recordCause recordCauses countSum sumCause checkOf bit0 limitedOf segmentsOf floatOf tapOf branchOf storedAll inTurn stores jacobian ofBits toBits neg mul div add
+rightK = refl
+
 pub lettered : AllRight table
 unfolding table
-lettered = (rightA, (rightB, (rightC, (rightD, (rightE, (rightF, (rightG, (rightH, (rightI, (rightJ, tt))))))))))
+lettered = (rightA, (rightB, (rightC, (rightD, (rightE, (rightF, (rightG, (rightH, (rightI, (rightJ, (rightK, tt)))))))))))

@@ -4,26 +4,28 @@ use mathlib.Core.Bool.{Bool, false, _||_, cond}
 use mathlib.Core.Path.{_≡_}
 use mathlib.Core.List.{List, [], _∷_, _++_, map}
 use lib.Dec.{eqb}
-use lib.ListN.{length}
-use lib.Ieee.{Float, binary64, ofBits, toBits}
+use lib.ListN.{length, getD}
+use lib.Ieee.{Float, binary64, nan, ofBits, toBits}
 use Rattle.lists.specs.UpTo.{listed, when}
 use Rattle.lists.specs.Entries.{Entry, sits}
 use Rattle.refusals.specs.Refusals.{checkedNumber, checkedValue}
 use Rattle.records.specs.AcNetwork.{AcNetwork}
 use Rattle.records.specs.Network.{networkOf}
 use Rattle.records.specs.Check.{countCause, checkOf}
-use Rattle.numbering.specs.Numbering.{nvar, ncon, coneLengths, columnKey, rowKey}
+use Rattle.numbering.specs.Numbering.{nvar, ncon, coneLengths, columnNumber, columnKey, rowKey}
 use Rattle.numbering.specs.Lookups.{lookupNumber, lookupValue, columnAsked, rowAsked}
 use Rattle.numbering.specs.declared.Lookup.{Lookup}
-use Rattle.numbering.specs.declared.ColumnName.the-variants.{CostOf}
-use Rattle.numbering.specs.declared.RowName.the-variants.{Wub, Wlb, Angub, Anglb, Segment}
+use Rattle.numbering.specs.declared.ColumnName.the-variants.{W, Wr, CostOf}
+use Rattle.numbering.specs.declared.RowName.the-variants.{OhmPf, Wub, Wlb, Angub, Anglb, Segment}
 use Rattle.rows.specs.Rows.{terms, b}
-use Rattle.kkt.specs.Kkt.{kkt}
+use Rattle.kkt.specs.Kkt.{kktRow, kkt}
 use Rattle.interface.specs.Scales.{servedUnitScale}
 use Rattle.interface.specs.declared.Operand.the-variants.{Price}
-use Rattle.interface.specs.declared.Parameter.the-variants.{Demand}
+use Rattle.interface.specs.declared.Parameter.the-variants.{Demand, SeriesAdmittance}
 use Rattle.interface.specs.declared.Power.the-variants.{Active, Reactive}
-use Rattle.examples.specs.Networks.{q, unlimited, curve, bounded, wide}
+use Rattle.interface.specs.declared.GB.the-variants.{Conductance}
+use Rattle.columns.specs.Jacobian.{jacobian}
+use Rattle.examples.specs.Networks.{q, unlimited, curve, bounded, wide, tapped}
 
 abbrev pub Q : List ℕ → AcNetwork Float
 Q l = networkOf 2 1 1 0 l
@@ -51,7 +53,7 @@ abbrev pub valuesAt : ℕ → ℕ → List Entry → List ℕ
 valuesAt r c [] = []
 valuesAt r c (e ∷ es) = when (sits r c e) (bits (e .val) ∷ []) ++ valuesAt r c es
 
--- F: "Q, z 1 at rows 18 and 21"
+-- F: x all 0, "z 1 at rows 18 and 21"
 abbrev pub kktF : List Entry
 kktF = kkt (Q q) (listed 10 (λ c. float false)) (listed 28 (λ r. float (eqb r 18 || eqb r 21)))
 
@@ -104,7 +106,7 @@ letterE =
     ∷ (ncon (P 0) ∷ [] is 12 ∷ [])
     ∷ []
 
--- "KKT row 28 has 0.5, 0.5 in column 2 and 0.5, -0.5 in column 3."
+-- "Q, z 1 at rows 18 and 21: KKT row 28 has 0.5, 0.5 in column 2 and 0.5, -0.5 in column 3."
 unfoldable pub letterF : List Example
 letterF =
     (valuesAt 28 2 kktF is 0x3fe0000000000000 ∷ 0x3fe0000000000000 ∷ [])
@@ -140,9 +142,24 @@ letterJ =
     ∷ (bits (servedUnitScale (Price Reactive) (Demand Reactive) (ofBits binary64 0x4010000000000000)) ∷ [] is 0x3fb0000000000000 ∷ [])
     ∷ []
 
+-- K: "x all 0 but w at from and wr 1": columns 2 and 4
+abbrev pub xK : List Float
+xK = listed 10 (λ c. float (eqb c 2 || eqb c 4))
+
+abbrev pub zK : List Float
+zK = listed 28 (λ r. float false)
+
+-- "conductance column has 0.25 in row ohm_pf."
+unfoldable pub letterK : List Example
+letterK =
+    (checked 2 1 1 0 tapped is 0 ∷ 0 ∷ [])
+    ∷ (columnNumber (Q tapped) (W 0) ∷ columnNumber (Q tapped) (Wr 0) ∷ [] is 2 ∷ 4 ∷ [])
+    ∷ (bits (getD (jacobian (Q tapped) xK zK (SeriesAdmittance Conductance) 0) (kktRow (Q tapped) (OhmPf 0)) nan) ∷ [] is 0x3fd0000000000000 ∷ [])
+    ∷ []
+
 -- ---- the table, and the claim over it
 unfoldable pub table : List (List Example)
-table = letterA ∷ letterB ∷ letterC ∷ letterD ∷ letterE ∷ letterF ∷ letterG ∷ letterH ∷ letterI ∷ letterJ ∷ []
+table = letterA ∷ letterB ∷ letterC ∷ letterD ∷ letterE ∷ letterF ∷ letterG ∷ letterH ∷ letterI ∷ letterJ ∷ letterK ∷ []
 
 abbrev pub Right : List Example → Type 0
 Right es = map (λ (e : Example). e .computed) es ≡ map (λ (e : Example). e .stated) es
