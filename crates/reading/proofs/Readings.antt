@@ -12,7 +12,7 @@ use lib.Ieee.{Float, nan, neg}
 use Rattle.lists.specs.UpTo.{sum, listed, overlay}
 use Rattle.lists.proofs.Each.{each-ext}
 use Rattle.lists.proofs.Listed.{listed-length, listed-at}
-use Rattle.refusals.specs.Refusals.{_orElse_, isRefused, refuseUnless, writtenIf, leftIn}
+use Rattle.refusals.specs.Refusals.{_orElse_, isRefused, refuseUnless, leftIn}
 use Rattle.refusals.specs.declared.Checked.{Checked}
 use Rattle.refusals.specs.declared.Checked.the-variants.{Accepted, Refused}
 use Rattle.refusals.specs.declared.Refusal.{Refusal}
@@ -149,11 +149,6 @@ module _ (n m k s : ℕ) (b : List ℕ) where
   pub prices-left : (z ys out : List Float) {c : Checked} → c ≡ Accepted
       → out ≡ overlay (listed n (λ i. neg (getD z i nan)) ++ listed n (λ i. neg (getD z (n + i) nan))) ys → out ≡ leftIn c (priceList (networkOf n m k s b) z) ys
   prices-left z ys out e h = h ∙ ap (λ (xs : List Float). overlay xs ys) (price-list z) ∙ sym (left-written _ ys e)
-
-pub refused-written : (c : Checked) (i j : ℕ) → isRefused c ≡ true → writtenIf c i ≡ writtenIf c j
-unfolding isRefused writtenIf
-refused-written Accepted i j h = absurd (subst T (sym h) tt)
-refused-written (Refused cause) i j h = refl
 
 -- ---- the objective
 pub no-scalar : (c : Checked) (v w : Float) → isRefused c ≡ true → scalarIf c v ≡ scalarIf c w

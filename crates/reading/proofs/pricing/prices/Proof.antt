@@ -2,15 +2,15 @@
 use mathlib.Core.Path.{sym, _∙_}
 use native.Mathlib.Omega.{arith}
 use lib.ListN.{length}
-use Rattle.refusals.proofs.Laws.{passed, left-refused, count-written}
-use Rattle.reading.proofs.Readings.{prices-went, prices-left, refused-written}
+use Rattle.refusals.proofs.Laws.{passed, left-refused, count-written, count-any}
+use Rattle.reading.proofs.Readings.{prices-went, prices-left}
 use borrow.Author.Needs.{needs}
 use Rattle.reading.proofs.pricing.prices.Statement.{statement}
 use Rattle.reading.proofs.pricing.prices.Tie as tie
 
 returns : tie.Need-returns
 returns c = let h = sym (c .before .before .is-refused .ensures) ∙ c .before .if1 .taken in
-    (rw (← c .before .before .before .prices-check .ensures) (c .written-if .ensures ∙ refused-written _ _ _ h), rw (← c .before .before .before .prices-check .ensures) (sym (left-refused _ _ _ h)))
+    (rw (← c .before .before .before .prices-check .ensures) (c .written-if .ensures ∙ count-any _ _ _ h), rw (← c .before .before .before .prices-check .ensures) (sym (left-refused _ _ _ h)))
 
 negate-both-requires : tie.Need-negate-both-requires
 negate-both-requires c κs = let a = c .before .before .before .before .before .before .before .args in
