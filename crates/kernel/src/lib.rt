@@ -9,12 +9,21 @@ ghost use Rattle.kernel.specs.Answers.{CheckedAnswer, WrittenAnswer};
 
 pub mod numbers;
 pub mod sens;
+pub mod readings;
 
 // Number 0 and the answer, or the number of the cause and the value returned with it.
 #[repr(C)]
 pub struct Answer {
     pub number: u64,
     pub value: u64,
+}
+
+// The same with a number as the answer, 0.0 on a refusal.
+#[repr(C)]
+pub struct Scalar {
+    pub number: u64,
+    pub value: u64,
+    pub result: f64,
 }
 
 pub fn checked_number(c: Checked) -> u64
