@@ -3,3 +3,4 @@ pub mod Fits
 pub mod Places
 pub mod Regular
 pub mod Passed
+pub mod Turned

@@ -5,10 +5,11 @@ use mathlib.Core.Bool.{true, _&&_}
 use mathlib.Core.List.{List}
 use lib.ListN.{length}
 use lib.Ieee.{Float}
+use Rattle.lists.proofs.Tests.{both}
 use Rattle.refusals.specs.declared.Checked.the-variants.{Accepted}
 use Rattle.refusals.proofs.Laws.{orElse-accepted, test-held, has-room}
-use Rattle.combination.specs.Checks.{residualFits, residualCheck}
-use Rattle.combination.proofs.Fits.{Resided, resided}
+use Rattle.combination.specs.Checks.{bounded, entriesFit, residualFits, residualCheck, transposeCheck}
+use Rattle.combination.proofs.Fits.{Entered, entered, Resided, resided}
 
 pub record Ready (dim columns : ℕ) (rows cols : List ℕ) (values rhs answer : List Float) (out : ℕ) : Type 0 where
   pub fits : residualFits dim columns rows cols values rhs answer ≡ true
@@ -22,3 +23,23 @@ residual-ready h =
     let a = orElse-accepted _ _ h in
     let t = test-held _ _ (a .0) in
     record { fits = t; has = resided _ _ _ _ _ _ _ t; room = has-room _ _ (a .1) }
+
+pub record Turning (dim : ℕ) (rows cols : List ℕ) (values : List Float) (outRows outCols outValues : ℕ) : Type 0 where
+  pub has : Entered dim rows cols values
+  pub rows-room : length rows ≤ outRows
+  pub cols-room : length rows ≤ outCols
+  pub values-room : length rows ≤ outValues
+
+pub transpose-ready : {dim : ℕ} {rows cols : List ℕ} {values : List Float} {outRows outCols outValues : ℕ}
+    → transposeCheck dim rows cols values outRows outCols outValues ≡ Accepted → Turning dim rows cols values outRows outCols outValues
+unfolding transposeCheck
+transpose-ready {dim} h =
+    let a = orElse-accepted _ _ h in
+    let b = orElse-accepted _ _ (a .1) in
+    let d = orElse-accepted _ _ (b .1) in
+    record {
+      has = entered _ _ _ _ (both (bounded dim 0) _ (test-held _ _ (a .0)) .1);
+      rows-room = has-room _ _ (b .0);
+      cols-room = has-room _ _ (d .0);
+      values-room = has-room _ _ (d .1)
+    }

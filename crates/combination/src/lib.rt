@@ -3,5 +3,8 @@
 mod checks;
 mod magnitude;
 mod residuals;
+mod transposes;
 
 pub use magnitude::max_abs;
+pub use residuals::residual;
+pub use transposes::transpose;
