@@ -8,8 +8,9 @@ use lib.Ieee.{Float}
 use Rattle.lists.proofs.Tests.{both}
 use Rattle.refusals.specs.declared.Checked.the-variants.{Accepted}
 use Rattle.refusals.proofs.Laws.{orElse-accepted, test-held, has-room}
-use Rattle.combination.specs.Checks.{bounded, entriesFit, residualFits, residualCheck, transposeCheck}
-use Rattle.combination.proofs.Fits.{Entered, entered, Resided, resided}
+use Rattle.combination.specs.Selectors.{itemsOf}
+use Rattle.combination.specs.Checks.{bounded, entriesFit, residualFits, selectorFits, residualCheck, transposeCheck, matrixCheck}
+use Rattle.combination.proofs.Fits.{Entered, entered, Resided, resided, Selected, selected}
 
 pub record Ready (dim columns : ℕ) (rows cols : List ℕ) (values rhs answer : List Float) (out : ℕ) : Type 0 where
   pub fits : residualFits dim columns rows cols values rhs answer ≡ true
@@ -41,5 +42,18 @@ transpose-ready {dim} h =
       has = entered _ _ _ _ (both (bounded dim 0) _ (test-held _ _ (a .0)) .1);
       rows-room = has-room _ _ (b .0);
       cols-room = has-room _ _ (d .0);
-      values-room = has-room _ _ (d .1)
+      values-room = has-room _ _ (d .1);
     }
+
+pub record Placed (dim : ℕ) (starts rows : List ℕ) (weights : List Float) (out : ℕ) : Type 0 where
+  pub fits : selectorFits dim starts rows weights ≡ true
+  pub has : Selected dim starts rows weights
+  pub room : dim * itemsOf starts ≤ out
+
+pub matrix-ready : {dim : ℕ} {starts rows : List ℕ} {weights : List Float} {out : ℕ}
+    → matrixCheck dim starts rows weights out ≡ Accepted → Placed dim starts rows weights out
+unfolding matrixCheck
+matrix-ready h =
+    let a = orElse-accepted _ _ h in
+    let t = test-held _ _ (a .0) in
+    record { fits = t; has = selected _ _ _ _ t; room = has-room _ _ (a .1) }

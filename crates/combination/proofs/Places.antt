@@ -11,3 +11,7 @@ inside c columns r dim h k = omega (arith, mul-le-mul-right dim h, suc-mul c dim
 
 pub next-column : (c dim : ℕ) → (c + 1) * dim ≡ c * dim + dim
 next-column c dim = rw (add-one, suc-mul)
+
+-- the whole of column c lies inside
+pub column-inside : (c columns dim : ℕ) → c < columns → c * dim + dim ≤ dim * columns
+column-inside c columns dim h = omega (arith, mul-le-mul-right dim h, suc-mul c dim, mul-comm dim columns)

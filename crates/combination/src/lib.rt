@@ -3,8 +3,10 @@
 mod checks;
 mod magnitude;
 mod residuals;
+mod selectors;
 mod transposes;
 
 pub use magnitude::max_abs;
 pub use residuals::residual;
+pub use selectors::selector_matrix;
 pub use transposes::transpose;

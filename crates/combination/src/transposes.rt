@@ -1,7 +1,15 @@
 // The entries with row and column exchanged.
-use crate::checks::{bounded, entries_fit};
-use lists::inner::{copy_f64, copy_u32};
-use refusals::{Checked, Refusal, Written, is_refused, or_else, room_for, written_if};
+use crate::checks::bounded;
+use crate::checks::entries_fit;
+use lists::inner::copy_f64;
+use lists::inner::copy_u32;
+use refusals::Checked;
+use refusals::Refusal;
+use refusals::Written;
+use refusals::is_refused;
+use refusals::or_else;
+use refusals::room_for;
+use refusals::written_if;
 ghost use mathlib.Core.Path.{_≡_};
 ghost use mathlib.Core.Bool.{_&&_};
 ghost use mathlib.Core.List.{map};

@@ -26,6 +26,9 @@ module _ {A : Type 0} where
       let l : length ys ≤ length xs = omega arith in
       rw (drop-of-length-le ys l, append-nil)
 
+  pub filled-whole : (ys : List A) (v : A) → overlay (replicate (length ys) v) ys ≡ replicate (length ys) v
+  filled-whole ys v = overlay-whole _ ys (length-replicate (length ys) v)
+
   overlay-next : (xs ys : List A) (v : A) → length xs < length ys → set (overlay xs ys) (length xs) v ≡ overlay (xs ++ v ∷ []) ys
   unfolding overlay
   overlay-next xs ys v h =

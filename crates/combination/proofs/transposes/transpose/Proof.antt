@@ -28,7 +28,7 @@ written-if-requires c κs = search needs
 
 -- src/transposes.rt:68:9
 returns : tie.Need-returns
-returns c = 
+returns c =
     let h = refused-by (c .before .before .before .transpose-check .ensures) (c .before .before .is-refused .ensures) (c .before .if1 .taken) in
     (c .written-if .ensures ∙ rw (c .before .before .before .transpose-check .ensures) (count-any _ _ _ h), (sym (left-refused _ _ _ h), (sym (left-refused _ _ _ h), sym (left-refused _ _ _ h))))
 
@@ -58,7 +58,7 @@ same-length-3 c = search needs
 
 -- src/transposes.rt:44:1
 returns-2 : tie.Need-returns-2
-returns-2 c = 
+returns-2 c =
     let h = accepted-by (c .before .before .before .before .before .before .before .before .before .before .before .before .before .before .transpose-check .ensures) (c .before .before .before .before .before .before .before .before .before .before .before .before .before .is-refused .ensures) (c .before .before .before .before .before .before .before .before .before .before .before .before .if1 .left) in
     let f = transpose-ready h in
     (sym (count-written _ h), (left-copied _ _ _ h (c .before .before .before .before .before .before .before .before .before .before .copy-u32 .ensures) (turned-rows _ _ _ (f .has .same-cols)), (left-copied _ _ _ h (c .before .before .before .before .before .before .copy-u322 .ensures) (turned-cols _ _ _), left-copied _ _ _ h (c .before .before .copy-f64 .ensures) (turned-values _ _ _ (f .has .same-values)))))
