@@ -4,3 +4,5 @@ pub mod Places
 pub mod Regular
 pub mod Passed
 pub mod Turned
+pub mod Cells
+pub mod Rows

@@ -3,3 +3,4 @@ pub mod Residual
 pub mod Selectors
 pub mod Combination
 pub mod Checks
+pub mod Passes

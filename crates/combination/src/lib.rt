@@ -5,6 +5,7 @@ mod magnitude;
 mod residuals;
 mod selectors;
 mod transposes;
+mod weigh;
 
 pub use magnitude::max_abs;
 pub use residuals::residual;
