@@ -6,3 +6,4 @@ pub mod Passed
 pub mod Turned
 pub mod Cells
 pub mod Rows
+pub mod Buffer

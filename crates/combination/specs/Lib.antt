@@ -4,3 +4,4 @@ pub mod Selectors
 pub mod Combination
 pub mod Checks
 pub mod Passes
+pub mod Gathering

@@ -1,0 +1,44 @@
+// The nonzero values of dK/dp, gathered column by column in a small buffer, so that a solution is walked
+// over them alone.
+ghost use mathlib.Core.Path.{_≡_};
+ghost use mathlib.Core.List.{[], _∷_};
+ghost use Prim.Native.Nat.{ℕ, _+_, _*_, _-_, _^_, _≤_, _<_};
+ghost use lib.Ieee.{ne};
+ghost use lib.ListN.{length, getD};
+ghost use Rattle.lists.specs.UpTo.{when};
+ghost use Rattle.lists.specs.Entries.{cell};
+ghost use Rattle.combination.specs.Magnitude.{zero64};
+ghost use Rattle.combination.specs.Gathering.{held, span, Added};
+
+// One value, kept behind the first n where it is not zero.
+fn put(rows: &mut [u32], values: &mut [f64], n: usize, row: usize, v: f64) -> usize
+    requires { ⌜ (n < length (now rows)) × (n < length (now values)) × (row < 2 ^ 32) ⌝ }
+    ensures { λ r. ⌜ (r ≤ n + 1) × Added (row + 1) (when (ne v zero64) (cell row v ∷ [])) (now (rows .entry)) (now (values .entry)) n (now (rows .exit)) (now (values .exit)) r ⌝ }
+{
+    if v != 0.0 {
+        rows[n] = row as u32;
+        values[n] = v;
+        return n + 1;
+    }
+    n
+}
+
+// The values from row first up to row past of the column that begins at base.
+fn scan(
+    rhs: &[f64],
+    base: usize,
+    first: usize,
+    past: usize,
+    rows: &mut [u32],
+    values: &mut [f64],
+    n: usize,
+) -> usize
+    requires { ⌜ (first ≤ past) × (past < 2 ^ 32) × (base + past ≤ length (now rhs)) × (n + (past - first) ≤ length (now rows)) × (n + (past - first) ≤ length (now values)) ⌝ }
+    ensures { λ r. ⌜ (r ≤ n + (past - first)) × Added past (span (now (rhs .entry)) base first past) (now (rows .entry)) (now (values .entry)) n (now (rows .exit)) (now (values .exit)) r ⌝ }
+{
+    let mut m = n;
+    for r in first..past {
+        m = put(rows, values, m, r, rhs[base + r]);
+    }
+    m
+}
