@@ -1,2 +1,2 @@
-// Definitions and laws about lists, and the copies that the crates above share.
+// Lists that a caller lends: definitions, laws, and stores.
 pub mod inner;

@@ -1,3 +1,4 @@
 pub mod Floats
 pub mod Causes
 pub mod Laws
+pub mod Sound

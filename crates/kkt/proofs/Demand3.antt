@@ -1,0 +1,58 @@
+-- Demand 3 holds of every accepted network. Assumes nothing.
+use Prim.Native.Nat.{ℕ, _+_}
+use mathlib.Core.Path.{_≡_}
+use mathlib.Core.List.{List}
+use native.Mathlib.Omega.{arith}
+use lib.ListN.{length, getD}
+use lib.Ieee.{Float, nan}
+use Rattle.lists.proofs.Ascending.{every-inside}
+use Rattle.records.specs.AcNetwork.{AcNetwork}
+use Rattle.numbering.specs.Numbering.{nvar, ncon, rowNumber}
+use Rattle.rows.specs.Program.{slack}
+use Rattle.kkt.specs.Kkt.{kktOf, kkt}
+use Rattle.records.specs.Network.{networkOf, Accepted}
+use Rattle.kkt.specs.Demand3.{Numbered, Places, Demand3}
+use Rattle.records.specs.Check.{checkOf}
+use Rattle.refusals.specs.declared.Checked.the-variants as Checked
+use Rattle.numbering.specs.declared.RowName.{RowName}
+use Rattle.records.proofs.Laws.{accepted}
+use Rattle.records.proofs.Sound.{Sound, sound}
+use Rattle.numbering.proofs.Names.{column-stands, column-only, row-stands, row-only, cones-add}
+use Rattle.kkt.proofs.KktCount.{kkt-count}
+use Rattle.kkt.proofs.KktPlaces.{kkt-once, kkt-twice, kkt-inside}
+
+pub numbered : (G : AcNetwork Float) → Sound G → Numbered G
+numbered G h =
+    record {
+      column-stands = column-stands G;
+      column-only = column-only G;
+      row-stands = row-stands G;
+      row-only = row-only G;
+      cones-add = cones-add G (h .added);
+    }
+
+-- whatever the slacks and the duals are
+places : (G : AcNetwork Float) → Sound G → (s z : RowName → Float) → Places G (kktOf G s z)
+places G h s z =
+    record {
+      once = kkt-once G h s z;
+      twice = kkt-twice G h s z;
+      inside = every-inside (nvar G + ncon G) (kktOf G s z) (kkt-inside G h s z);
+      bound = omega (arith, kkt-count G s z, h .added);
+    }
+
+pub kkt-places : (G : AcNetwork Float) → Sound G → (x z : List Float) → Places G (kkt G x z)
+unfolding kkt
+kkt-places G h x z = places G h (slack G x) (λ r. getD z (rowNumber G r) nan)
+
+pub demand3 : (n m k s : ℕ) (bytes : List ℕ) (x z : List Float) → Accepted n m k s bytes
+    → length x ≡ nvar (networkOf n m k s bytes) → length z ≡ ncon (networkOf n m k s bytes) → Demand3 n m k s bytes x z
+demand3 n m k s bytes x z a hx hz =
+    let G = networkOf n m k s bytes in
+    let h = sound n m k s bytes a in
+    record { numbered = numbered G h; places = kkt-places G h x z }
+
+-- the same of counts and records that pass the check
+pub demand3-checked : (n m k s : ℕ) (bytes : List ℕ) (x z : List Float) → checkOf n m k s bytes ≡ Checked.Accepted
+    → length x ≡ nvar (networkOf n m k s bytes) → length z ≡ ncon (networkOf n m k s bytes) → Demand3 n m k s bytes x z
+demand3-checked n m k s bytes x z h = demand3 n m k s bytes x z (accepted n m k s bytes h)

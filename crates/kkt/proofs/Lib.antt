@@ -1,0 +1,4 @@
+pub mod KktCount
+pub mod KktCones
+pub mod KktPlaces
+pub mod Demand3

@@ -1,0 +1,2 @@
+pub mod TermsUp
+pub mod Shape

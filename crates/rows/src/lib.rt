@@ -1,0 +1,1 @@
+// The rows of the SOCWR program: definitions and laws, no code of its own.
