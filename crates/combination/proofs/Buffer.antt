@@ -13,7 +13,8 @@ use lib.Ieee.{Float, nan}
 use Rattle.lists.specs.UpTo.{upTo, each, listed, when}
 use Rattle.lists.specs.Entries.{Cell, cell}
 use Rattle.lists.proofs.UpTo.{upTo-more, upTo-same}
-use Rattle.lists.proofs.Listed.{listed-length, each-split}
+use Rattle.lists.proofs.Each.{each-split}
+use Rattle.lists.proofs.Listed.{listed-length}
 use Rattle.combination.specs.Combination.{nonzeroAt}
 use Rattle.combination.specs.Gathering.{held, span, Added}
 
@@ -32,13 +33,13 @@ unfolding held
 kept rows values n row v h k =
     record {
       adds =
-        upTo-more _++_ [] _ n
-        ∙ ap₂ _++_ (held-kept rows values n row v) (ap₂ (λ (a : ℕ) (b : Float). cell a b ∷ []) (getD-set-same rows n row 0 h) (getD-set-same values n v nan k));
+          upTo-more _++_ [] _ n
+          ∙ ap₂ _++_ (held-kept rows values n row v) (ap₂ (λ (a : ℕ) (b : Float). cell a b ∷ []) (getD-set-same rows n row 0 h) (getD-set-same values n v nan k));
       below = λ b l f j i.
           elim (ℕ-discrete j n) [
             | yes e ↦ rw (e, getD-set-same rows n row 0 h) (omega arith)
             | no o ↦ rw (getD-set-other rows n j row 0 o) (f j (omega arith))
-          ]
+          ];
     }
 
 pub passed-by : (least : ℕ) (rows : List ℕ) (values : List Float) (n : ℕ) → Added least [] rows values n rows values n
@@ -50,7 +51,7 @@ pub added-joined : {a b c n n′ n″ : ℕ} {xs ys : List Cell} {rows rows′ r
 added-joined p q h k =
     record {
       adds = rw (q .adds, p .adds, append-assoc);
-      below = λ e l f. q .below e (omega arith) (p .below e (omega arith) f)
+      below = λ e l f. q .below e (omega arith) (p .below e (omega arith) f);
     }
 
 -- how many there are then

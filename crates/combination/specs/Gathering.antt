@@ -20,3 +20,10 @@ span rhs base a b = each (b - a) (λ i. nonzeroAt rhs base (a + i))
 pub record Added (least : ℕ) (ts : List Cell) (rows : List ℕ) (values : List Float) (n : ℕ) (rows′ : List ℕ) (values′ : List Float) (n′ : ℕ) : Type 0 where
   pub adds : held rows′ values′ n′ ≡ held rows values n ++ ts
   pub below : (b : ℕ) → least ≤ b → ((j : ℕ) → j < n → getD rows j 0 < b) → (j : ℕ) → j < n′ → getD rows′ j 0 < b
+
+-- from row first the column was walked to row next, and there the buffer has count cells
+pub record Stopped (first dim count next : ℕ) : Type 0 where
+  pub moved : first < next
+  pub inside : next ≤ dim
+  pub room : count ≤ 512
+  pub full : next < dim → count ≡ 512

@@ -2,13 +2,13 @@
 // over them alone.
 ghost use mathlib.Core.Path.{_≡_};
 ghost use mathlib.Core.List.{[], _∷_};
-ghost use Prim.Native.Nat.{ℕ, _+_, _*_, _-_, _^_, _≤_, _<_};
+ghost use Prim.Native.Nat.{min, _+_, _-_, _^_, _≤_, _<_};
 ghost use lib.Ieee.{ne};
-ghost use lib.ListN.{length, getD};
+ghost use lib.ListN.{length};
 ghost use Rattle.lists.specs.UpTo.{when};
 ghost use Rattle.lists.specs.Entries.{cell};
 ghost use Rattle.combination.specs.Magnitude.{zero64};
-ghost use Rattle.combination.specs.Gathering.{held, span, Added};
+ghost use Rattle.combination.specs.Gathering.{span, Added, Stopped};
 
 // One value, kept behind the first n where it is not zero.
 fn put(rows: &mut [u32], values: &mut [f64], n: usize, row: usize, v: f64) -> usize
@@ -41,4 +41,47 @@ fn scan(
         m = put(rows, values, m, r, rhs[base + r]);
     }
     m
+}
+
+fn lesser(a: usize, b: usize) -> usize
+    ensures { λ r. ⌜ r ≡ min a b ⌝ }
+{
+    if a < b {
+        return a;
+    }
+    b
+}
+
+// Where a walk along a column stopped: at the row next, with count cells in the buffer.
+pub(crate) struct Scanned {
+    pub(crate) count: usize,
+    pub(crate) next: usize,
+}
+
+// The column that begins at base from row first on, until its end or until the buffer is full.
+fn gather(
+    rhs: &[f64],
+    base: usize,
+    first: usize,
+    dim: usize,
+    rows: &mut [u32],
+    values: &mut [f64],
+    n: usize,
+) -> Scanned
+    requires { ⌜ (first < dim) × (dim ≤ 294912) × (base + dim ≤ length (now rhs)) × (n < 512) × (length (now rows) ≡ 512) × (length (now values) ≡ 512) ⌝ }
+    ensures { λ r. ⌜ (Stopped first dim (r .count) (r .next)) × Added dim (span (now (rhs .entry)) base first (r .next)) (now (rows .entry)) (now (values .entry)) n (now (rows .exit)) (now (values .exit)) (r .count) ⌝ }
+{
+    let mut m = n;
+    let mut r = first;
+    loop {
+        let past = lesser(dim, r + (512 - m));
+        m = scan(rhs, base, r, past, rows, values, m);
+        r = past;
+        if r == dim {
+            return Scanned { count: m, next: r };
+        }
+        if m == 512 {
+            return Scanned { count: m, next: r };
+        }
+    }
 }

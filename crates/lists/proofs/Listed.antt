@@ -1,13 +1,14 @@
 -- The list f 0, .., f (n - 1). Assumes nothing.
-use Prim.Native.Nat.{ℕ, zero, suc, _+_, _<_}
-use mathlib.Core.Path.{_≡_, refl, sym, ap, _∙_}
-use mathlib.Core.List.{List, [], _∷_, _++_, append-nil, append-assoc, map, map-append}
+use Prim.Native.Nat.{ℕ, zero, suc, _<_}
+use mathlib.Core.Path.{_≡_, _∙_}
+use mathlib.Core.List.{[], _∷_, map}
 use mathlib.Core.Logic.{⊎-elim}
-use native.Mathlib.Nat.{not-suc-le-zero, le-of-suc-le-suc, eq-or-lt-of-le, add-zero, add-suc}
+use native.Mathlib.Nat.{not-suc-le-zero, le-of-suc-le-suc, eq-or-lt-of-le}
 use lib.ListN.{length, getD, List·getD-append}
 use lib.Seq.{getD-at}
-use Rattle.lists.specs.UpTo.{upTo, each, listed}
+use Rattle.lists.specs.UpTo.{upTo, listed}
 use Rattle.lists.proofs.Sums.{each-length, sum-ones}
+use Rattle.lists.proofs.Each.{map-each}
 
 module _ {A : Type 0} (f : ℕ → A) where
   pub listed-length : (n : ℕ) → length (listed n f) ≡ n
@@ -24,12 +25,4 @@ module _ {A : Type 0} (f : ℕ → A) where
       (eq-or-lt-of-le (le-of-suc-le-suc h))
 
 pub map-listed : {A B : Type 0} (g : A → B) (f : ℕ → A) (n : ℕ) → map g (listed n f) ≡ listed n (λ i. g (f i))
-unfolding upTo
-map-listed g f zero = refl
-map-listed g f (suc n) = rw (map-append, map-listed g f n)
-
--- the first n, and then m more
-pub each-split : {A : Type 0} (f : ℕ → List A) (n m : ℕ) → each (n + m) f ≡ each n f ++ each m (λ j. f (n + j))
-unfolding upTo
-each-split f n zero = rw (add-zero, append-nil)
-each-split f n (suc m) = rw (add-suc, each-split f n m, append-assoc)
+map-listed g f n = map-each g n (λ i. f i ∷ [])
