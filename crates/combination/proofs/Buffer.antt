@@ -55,7 +55,7 @@ added-joined p q h k =
     }
 
 -- how many there are then
-held-length : (rows : List ℕ) (values : List Float) (n : ℕ) → length (held rows values n) ≡ n
+pub held-length : (rows : List ℕ) (values : List Float) (n : ℕ) → length (held rows values n) ≡ n
 unfolding held
 held-length rows values n = listed-length _ n
 

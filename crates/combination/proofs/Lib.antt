@@ -7,3 +7,5 @@ pub mod Turned
 pub mod Cells
 pub mod Rows
 pub mod Buffer
+pub mod Filled
+pub mod Walked
