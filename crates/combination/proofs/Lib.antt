@@ -9,3 +9,5 @@ pub mod Rows
 pub mod Buffer
 pub mod Filled
 pub mod Walked
+pub mod Tables
+pub mod Forward

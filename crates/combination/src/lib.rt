@@ -1,6 +1,7 @@
 // The dense side of a sensitivity: residuals, transposed entries, selector matrices and both combinations.
 // A dense matrix lies by columns: row r of column c at c * dim + r.
 mod checks;
+mod combine;
 mod gather;
 mod magnitude;
 mod residuals;

@@ -1,0 +1,54 @@
+// Both combinations of `forward_adjoint` from a given solution.
+use crate::gather::fill;
+use crate::weigh::weigh_all;
+use lists::inner::fill_f64;
+ghost use mathlib.Core.Path.{_≡_};
+ghost use mathlib.Core.Bool.{true};
+ghost use Prim.Native.Nat.{ℕ, _+_, _*_, _≤_, _<_};
+ghost use lib.Ieee.{binary64, nan, mul};
+ghost use lib.ListN.{length, getD};
+ghost use Rattle.lists.specs.UpTo.{listed};
+ghost use Rattle.combination.specs.Selectors.{itemsOf};
+ghost use Rattle.combination.specs.Combination.{forwardAt, adjointAt, table};
+ghost use Rattle.combination.specs.Checks.{selectorFits};
+
+// Each element times the sign.
+fn scale(out: &mut [f64], sign: f64)
+    ensures { λ _. ⌜ now (out .exit) ≡ listed (length (now (out .entry))) (λ i. mul binary64 sign (getD (now (out .entry)) i nan)) ⌝ }
+{
+    for i in 0..out.len() {
+        out[i] = sign * out[i];
+    }
+}
+
+// Item o, column c: the terms of item o by column c of the solution.
+fn forward_into(
+    out: &mut [f64],
+    dim: usize,
+    columns: usize,
+    items: usize,
+    starts: &[u32],
+    rows: &[u32],
+    weights: &[f64],
+    sign: f64,
+    x: &[f64],
+)
+    requires { ⌜ (selectorFits dim (now starts) (now rows) (now weights) ≡ true) × (items ≡ itemsOf (now starts)) × (columns ≤ 65536) × (length (now x) ≡ dim * columns) × (length (now out) ≡ items * columns) ⌝ }
+    ensures { λ _. ⌜ (now (out .exit) ≡ table items columns (forwardAt dim (now (starts .entry)) (now (rows .entry)) (now (weights .entry)) sign (now (x .entry)))) × (length (now (out .exit)) ≡ items * columns) ⌝ }
+{
+    fill_f64(out, out.len(), 0.0);
+    weigh_all(
+        out,
+        0,
+        1,
+        columns,
+        x,
+        dim,
+        columns,
+        starts,
+        items,
+        rows,
+        weights,
+    );
+    scale(out, sign);
+}
