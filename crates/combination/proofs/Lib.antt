@@ -11,3 +11,4 @@ pub mod Filled
 pub mod Walked
 pub mod Tables
 pub mod Forward
+pub mod Adjoint

@@ -4,12 +4,12 @@ use mathlib.Core.Path.{_≡_}
 use mathlib.Core.Bool.{cond}
 use mathlib.Core.List.{List, _++_}
 use lib.Dec.{ltb, eqb}
-use lib.ListN.{getD}
+use lib.ListN.{length, getD}
 use lib.Ieee.{Float, nan}
 use Rattle.lists.specs.UpTo.{each, listed}
 use Rattle.lists.specs.Entries.{Cell, cell}
 use Rattle.combination.specs.Selectors.{startOf, itemOf}
-use Rattle.combination.specs.Combination.{nonzeroAt}
+use Rattle.combination.specs.Combination.{weighed, nonzeroAt}
 
 -- the first n cells of the buffer
 unfoldable pub held : List ℕ → List Float → ℕ → List Cell
@@ -56,3 +56,9 @@ pub record Filling (dim columns c r : ℕ) (rhs : List Float) (starts rows : Lis
   pub column-inside : c′ ≤ columns
   pub row-inside : r′ < dim
   pub moved : c * dim + r < c′ * dim + r′
+
+-- cell (o, k) of the table has gathered the first past k rows of column k
+pub record Summed (items columns dim : ℕ) (rhs y : List Float) (past : ℕ → ℕ) (m m′ : List Float) : Type 0 where
+  pub long : length m′ ≡ length m
+  pub at : (o k : ℕ) → o < items → k < columns
+      → getD m′ (o * columns + k) nan ≡ weighed y (o * dim) (each (past k) (nonzeroAt rhs (k * dim))) (getD m (o * columns + k) nan)

@@ -11,6 +11,7 @@ ghost use Rattle.lists.specs.UpTo.{listed};
 ghost use Rattle.combination.specs.Selectors.{itemsOf};
 ghost use Rattle.combination.specs.Combination.{forwardAt, adjointAt, table};
 ghost use Rattle.combination.specs.Checks.{selectorFits};
+ghost use Rattle.combination.specs.Gathering.{Summed};
 
 // Each element times the sign.
 fn scale(out: &mut [f64], sign: f64)
@@ -51,4 +52,35 @@ fn forward_into(
         weights,
     );
     scale(out, sign);
+}
+
+// The nonzero values of each column by each item's column of the solution, added in the order of the rows.
+fn add_columns(out: &mut [f64], dim: usize, columns: usize, items: usize, rhs: &[f64], y: &[f64])
+    requires { ⌜ (0 < dim) × (dim ≤ 294912) × (columns ≤ 65536) × (items ≤ 65536) × (length (now rhs) ≡ dim * columns) × (length (now y) ≡ dim * items) × (length (now out) ≡ items * columns) ⌝ }
+    ensures { λ _. ⌜ Summed items columns dim (now (rhs .entry)) (now (y .entry)) (λ k. dim) (now (out .entry)) (now (out .exit)) ⌝ }
+{
+    let mut starts = [0u32; 9];
+    let mut rows = [0u32; 512];
+    let mut values = [0.0; 512];
+    let mut c = 0;
+    let mut r = 0;
+    while c < columns {
+        let filled = fill(rhs, dim, columns, c, r, &mut starts, &mut rows, &mut values);
+        let segments = filled.segments;
+        weigh_all(
+            out,
+            c,
+            columns,
+            1,
+            y,
+            dim,
+            items,
+            &starts,
+            segments,
+            &rows,
+            &values,
+        );
+        c = filled.column;
+        r = filled.row;
+    }
 }
