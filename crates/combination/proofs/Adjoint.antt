@@ -85,6 +85,10 @@ module _ {items columns dim : ℕ} {rhs y : List Float} where
             ∙ rw (rows-joined rhs (k * dim) (passedRows dim c r k) (passedRows dim c′ r′ k) (f .onward k))
             (sym (weighed-joined y (o * dim) (each (passedRows dim c r k) (nonzeroAt rhs (k * dim))) (span rhs (k * dim) (passedRows dim c r k) (passedRows dim c′ r′ k)) _))
 
+  pub summed-empty : (m : List Float) → dim ≡ 0 → Summed items columns dim rhs y (λ k. dim) m m
+  unfolding weighed upTo
+  summed-empty m e = record { long = refl; at = λ o k i j. rw e (sym (through-none (weigh y (o * 0)) _)) }
+
   -- as far by another count
   pub summed-same : {past past′ : ℕ → ℕ} {m m′ : List Float} → Summed items columns dim rhs y past m m′ → ((k : ℕ) → k < columns → past k ≡ past′ k) → Summed items columns dim rhs y past′ m m′
   summed-same a e = record { long = a .long; at = λ o k i j. rw (← e k j) (a .at o k i j) }

@@ -8,9 +8,10 @@ use lib.Ieee.{Float}
 use Rattle.lists.proofs.Tests.{both}
 use Rattle.refusals.specs.declared.Checked.the-variants.{Accepted}
 use Rattle.refusals.proofs.Laws.{orElse-accepted, test-held, has-room}
+use Rattle.interface.specs.declared.Mode.{Mode}
 use Rattle.combination.specs.Selectors.{itemsOf}
-use Rattle.combination.specs.Checks.{bounded, entriesFit, residualFits, selectorFits, residualCheck, transposeCheck, matrixCheck}
-use Rattle.combination.proofs.Fits.{Entered, entered, Resided, resided, Selected, selected}
+use Rattle.combination.specs.Checks.{bounded, entriesFit, residualFits, selectorFits, residualCheck, transposeCheck, matrixCheck, combinationFits, combinationCheck}
+use Rattle.combination.proofs.Fits.{Entered, entered, Resided, resided, Selected, selected, Combined, combined}
 
 pub record Ready (dim columns : ℕ) (rows cols : List ℕ) (values rhs answer : List Float) (out : ℕ) : Type 0 where
   pub fits : residualFits dim columns rows cols values rhs answer ≡ true
@@ -57,3 +58,17 @@ matrix-ready h =
     let a = orElse-accepted _ _ h in
     let t = test-held _ _ (a .0) in
     record { fits = t; has = selected _ _ _ _ t; room = has-room _ _ (a .1) }
+
+pub record Directed (mode : Mode) (dim columns : ℕ) (starts rows : List ℕ) (weights rhs solution : List Float) (out : ℕ) : Type 0 where
+  pub fits : combinationFits mode dim columns starts rows weights rhs solution ≡ true
+  pub has : Combined dim columns starts rows weights
+  pub room : itemsOf starts * columns ≤ out
+
+pub combination-ready : {mode : Mode} {dim columns : ℕ} {starts rows : List ℕ} {weights rhs solution : List Float} {out : ℕ}
+    → combinationCheck mode dim columns starts rows weights rhs solution out ≡ Accepted → Directed mode dim columns starts rows weights rhs solution out
+unfolding combinationCheck
+combination-ready {mode} h =
+    let a = orElse-accepted _ _ h in
+    let b = orElse-accepted _ _ (a .1) in
+    let t = test-held _ _ (b .0) in
+    record { fits = t; has = combined _ _ _ _ _ _ _ mode t; room = has-room _ _ (b .1) }

@@ -23,7 +23,7 @@ fn scale(out: &mut [f64], sign: f64)
 }
 
 // Item o, column c: the terms of item o by column c of the solution.
-fn forward_into(
+pub(crate) fn forward_into(
     out: &mut [f64],
     dim: usize,
     columns: usize,
@@ -56,9 +56,12 @@ fn forward_into(
 
 // The nonzero values of each column by each item's column of the solution, added in the order of the rows.
 fn add_columns(out: &mut [f64], dim: usize, columns: usize, items: usize, rhs: &[f64], y: &[f64])
-    requires { ⌜ (0 < dim) × (dim ≤ 294912) × (columns ≤ 65536) × (items ≤ 65536) × (length (now rhs) ≡ dim * columns) × (length (now y) ≡ dim * items) × (length (now out) ≡ items * columns) ⌝ }
+    requires { ⌜ (dim ≤ 294912) × (columns ≤ 65536) × (items ≤ 65536) × (length (now rhs) ≡ dim * columns) × (length (now y) ≡ dim * items) × (length (now out) ≡ items * columns) ⌝ }
     ensures { λ _. ⌜ Summed items columns dim (now (rhs .entry)) (now (y .entry)) (λ k. dim) (now (out .entry)) (now (out .exit)) ⌝ }
 {
+    if dim == 0 {
+        return;
+    }
     let mut starts = [0u32; 9];
     let mut rows = [0u32; 512];
     let mut values = [0.0; 512];
@@ -83,4 +86,22 @@ fn add_columns(out: &mut [f64], dim: usize, columns: usize, items: usize, rhs: &
         c = filled.column;
         r = filled.row;
     }
+}
+
+// Item o, column c: the nonzero values of column c of dK/dp by column o of the solution.
+pub(crate) fn adjoint_into(
+    out: &mut [f64],
+    dim: usize,
+    columns: usize,
+    items: usize,
+    sign: f64,
+    rhs: &[f64],
+    y: &[f64],
+)
+    requires { ⌜ (dim ≤ 294912) × (columns ≤ 65536) × (items ≤ 65536) × (length (now rhs) ≡ dim * columns) × (length (now y) ≡ dim * items) × (length (now out) ≡ items * columns) ⌝ }
+    ensures { λ _. ⌜ (now (out .exit) ≡ table items columns (adjointAt dim sign (now (rhs .entry)) (now (y .entry)))) × (length (now (out .exit)) ≡ items * columns) ⌝ }
+{
+    fill_f64(out, out.len(), 0.0);
+    add_columns(out, dim, columns, items, rhs, y);
+    scale(out, sign);
 }

@@ -2,6 +2,7 @@
 // A dense matrix lies by columns: row r of column c at c * dim + r.
 mod checks;
 mod combine;
+mod direction;
 mod gather;
 mod magnitude;
 mod residuals;
@@ -9,6 +10,7 @@ mod selectors;
 mod transposes;
 mod weigh;
 
+pub use direction::forward_adjoint;
 pub use magnitude::max_abs;
 pub use residuals::residual;
 pub use selectors::selector_matrix;
