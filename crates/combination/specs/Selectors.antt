@@ -23,13 +23,13 @@ segment rows weights first past = listed (past - first) (λ j. cell (getD rows (
 unfoldable pub itemOf : List ℕ → List ℕ → List Float → ℕ → List Cell
 itemOf starts rows weights o = segment rows weights (startOf starts o) (startOf starts (o + 1))
 
--- `sel[(r, o)] += w`
-unfoldable pub addWeight : ℕ → ℕ → Cell → List Float → List Float
-addWeight dim o t m = set m (o * dim + t .row) (add binary64 (getD m (o * dim + t .row) nan) (t .val))
+-- `sel[(r, o)] += w`, the column o beginning at base
+unfoldable pub addWeight : ℕ → Cell → List Float → List Float
+addWeight base t m = set m (base + t .row) (add binary64 (getD m (base + t .row) nan) (t .val))
 
 -- `for &(r, w) in entries`
 unfoldable pub addItem : ℕ → List ℕ → List ℕ → List Float → ℕ → List Float → List Float
-addItem dim starts rows weights o m = through (addWeight dim o) (itemOf starts rows weights o) m
+addItem dim starts rows weights o m = through (addWeight (o * dim)) (itemOf starts rows weights o) m
 
 -- `Mat::<f64>::zeros(dim, op_map.len())`, then `for (o, entries) in op_map.iter().enumerate()`
 unfoldable pub selectorMatrix : ℕ → List ℕ → List ℕ → List Float → List Float

@@ -1,11 +1,11 @@
 -- A list that is written over the front of another, one element after the other. Assumes nothing.
-use Prim.Native.Nat.{ℕ, zero, suc, _+_, _≤_, _<_}
+use Prim.Native.Nat.{ℕ, suc, _+_, _-_, _≤_, _<_}
 use mathlib.Core.Path.{_≡_, refl, sym, ap, _∙_}
 use mathlib.Core.List.{List, [], _∷_, _++_, append-nil, append-assoc}
 use native.Mathlib.Numerals.{add-one}
 use native.Mathlib.Omega.{arith}
 use lib.ListN.{length, drop, set, getD, replicate, length-append, length-drop, length-replicate, getD-replicate, drop-of-length-le}
-use lib.Seq.{drop-cons, set-append-seam, ext-getD}
+use lib.Seq.{drop-cons, set-append-seam, getD-append-add, getD-drop, ext-getD}
 use Rattle.lists.specs.UpTo.{upTo, listed, overlay}
 use Rattle.lists.proofs.UpTo.{upTo-more}
 use Rattle.lists.proofs.Listed.{listed-length, listed-at}
@@ -26,6 +26,9 @@ module _ {A : Type 0} where
       let l : length ys ≤ length xs = omega arith in
       rw (drop-of-length-le ys l, append-nil)
 
+  pub filled-whole : (ys : List A) (v : A) → overlay (replicate (length ys) v) ys ≡ replicate (length ys) v
+  filled-whole ys v = overlay-whole _ ys (length-replicate (length ys) v)
+
   overlay-next : (xs ys : List A) (v : A) → length xs < length ys → set (overlay xs ys) (length xs) v ≡ overlay (xs ++ v ∷ []) ys
   unfolding overlay
   overlay-next xs ys v h =
@@ -36,6 +39,13 @@ module _ {A : Type 0} where
   module _ {xs d₀ d : List A} (o : Overlaid xs d₀ d) where
     pub long : length d ≡ length d₀
     long = rw (o .is) (overlay-length xs d₀ (o .room))
+
+    -- past what is written the list is as it was
+    pub past-written : (i : ℕ) (z : A) → length xs ≤ i → getD d i z ≡ getD d₀ i z
+    unfolding overlay
+    past-written i z h =
+        let e : i ≡ length xs + (i - length xs) = omega arith in
+        rw (o .is, e) (getD-append-add xs (drop (length xs) d₀) (i - length xs) z ∙ getD-drop (length xs) d₀ (i - length xs) z)
 
     -- one element more
     pub one-more : (at : ℕ) (v : A) → at ≡ length xs → at < length d₀ → Overlaid (xs ++ v ∷ []) d₀ (set d at v)

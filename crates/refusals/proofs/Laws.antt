@@ -118,3 +118,7 @@ module _ {r c : Checked} {b : Bool} {A : Type 0} (e : r ≡ c) (p : b ≡ isRefu
   writes m n ys h q l k =
       let f = accepted-by e p h in
       (rw k (sym (count-written n f)), rw k (left-front n ys f q l))
+
+-- where the check passed, a copy of xs is what is left
+pub left-copied : {A : Type 0} {c : Checked} (zs xs ys : List A) {d : List A} → c ≡ Accepted → d ≡ overlay zs ys → zs ≡ xs → d ≡ leftIn c xs ys
+left-copied zs xs ys h p q = p ∙ rw q (sym (left-written xs ys h))
