@@ -1,2 +1,5 @@
+pub mod Tallies
+pub mod Layouts
 pub mod Points
 pub mod Names
+pub mod Entered

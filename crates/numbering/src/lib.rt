@@ -2,6 +2,7 @@
 use refusals::Refusal;
 
 pub mod inner;
+pub mod layout;
 
 // A point of a row of things that have several points each: the thing, and the place in it.
 pub struct Place {
@@ -49,6 +50,13 @@ pub enum RowName {
     Segment(usize, usize),
     Jabr(usize, usize),
     Thermal(usize, usize),
+}
+
+// What is counted over the records of a kind: limited branches, piecewise generators, or segments of generators.
+pub enum Tally {
+    Limited,
+    Piecewise,
+    Segments,
 }
 
 // How many buses, branches, generators, segments, limited branches (T) and cost columns there are.
