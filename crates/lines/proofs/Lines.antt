@@ -9,7 +9,7 @@ use lib.Ieee.{Float, binary64, ofBits, neg, ne, mul}
 use borrow.Author.Tests.{lt-ltb, le-ltb}
 use Rattle.lists.specs.UpTo.{when, sum, bit, count}
 use Rattle.lists.specs.Entries.{Entry, entry}
-use Rattle.lists.proofs.Sums.{sum-mono, sum-next, sum-ones, sum-le, bit-le}
+use Rattle.lists.proofs.Sums.{sum-mono, sum-next, count-le}
 use Rattle.records.specs.AcNetwork.{AcNetwork}
 use Rattle.records.specs.Fields.{voltageBoundOf, vmMinOf, vmMaxOf, capabilityOf, pminOf, pmaxOf, qminOf, qmaxOf, angledOf, tanAngminOf, tanAngmaxOf, slopeOf, interceptOf, fromOf, toOf, rateAOf}
 use Rattle.records.specs.Network.{segmentRecord}
@@ -29,9 +29,6 @@ use Rattle.records.proofs.Sound.{sound}
 use Rattle.lines.specs.Line.{networkIn, Network, lineAt, Within, Stands, spot, line, single, ends, coneLine, ConeStands, thermal}
 use Rattle.lines.specs.declared.Cone.{Cone}
 use Rattle.lines.specs.declared.Line.{Line}
-
-pub count-le : (n : ℕ) (p : ℕ → Bool) → count n p ≤ n
-count-le n p = omega (arith, sum-ones n, sum-le n (λ i. bit (p i)) (λ i. 1) (λ i d. bit-le (p i)))
 
 pub in-range : {l : SocWrLayout} {bytes : List ℕ} → Network l bytes → InRange l
 in-range {l} {bytes} h =

@@ -9,6 +9,7 @@ pub mod angles;
 pub mod buses;
 pub mod cones;
 pub mod generators;
+pub mod ohm;
 
 pub fn spot(on: bool, col: u32, val: f64) -> Spot
     ensures { λ r. ⌜ r ≡ spotOf on col val ⌝ }
@@ -40,6 +41,12 @@ pub fn line(row: u32, rhs: f64, first: Spot, second: Spot) -> Line
         first,
         second,
     }
+}
+
+pub fn wide(x: u32) -> usize
+    ensures { λ r. ⌜ r ≡ x ⌝ }
+{
+    x as usize
 }
 
 // One of two numbers.

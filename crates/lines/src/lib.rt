@@ -1,4 +1,4 @@
-// The rows of the nonnegative cone and of the second-order cones: each has at most two terms.
+// The rows of the program but the balance rows: Ohm rows have at most four terms, the others at most two.
 pub mod inner;
 
 // A term: the column and the coefficient. The row has it where it is on.
@@ -22,4 +22,25 @@ pub struct Cone {
     pub b: Line,
     pub c: Line,
     pub d: Line,
+}
+
+// The series admittance of a branch and the products of its tap: tap cosine, tap sine, tap tap.
+pub struct Series {
+    pub g: f64,
+    pub b: f64,
+    pub tr: f64,
+    pub ti: f64,
+    pub tm2: f64,
+}
+
+// An Ohm row: its number, its columns, and the coefficients of w, wr and wi. That of the flow is 1.
+pub struct Ohm {
+    pub row: u32,
+    pub w: u32,
+    pub wr: u32,
+    pub wi: u32,
+    pub flow: u32,
+    pub at_w: f64,
+    pub at_wr: f64,
+    pub at_wi: f64,
 }

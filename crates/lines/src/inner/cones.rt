@@ -2,6 +2,7 @@
 use super::line;
 use super::single;
 use super::spot;
+use super::wide;
 use crate::Cone;
 use crate::Line;
 use numbering::SocWrLayout;
@@ -39,12 +40,6 @@ pub fn line_of(c: Cone, l: usize) -> Line
         return c.c;
     }
     c.d
-}
-
-fn wide(x: u32) -> usize
-    ensures { λ r. ⌜ r ≡ x ⌝ }
-{
-    x as usize
 }
 
 // -0.5 at the from bus and v at the to bus, the smaller number first.
