@@ -1,5 +1,5 @@
 -- What is written of a row's numbers is what the KKT list has of the row. Assumes nothing.
-use Prim.Native.Nat.{ℕ, zero, suc, _+_, _<_}
+use Prim.Native.Nat.{ℕ, zero, suc, _+_, _<_, _≤_, _^_}
 use mathlib.Core.Path.{_≡_, refl, sym, ap, ap₂, _∙_}
 use mathlib.Core.Bool.{Bool, true, false, cond}
 use mathlib.Core.List.{List, [], _∷_, _++_, map}
@@ -7,20 +7,30 @@ use native.Mathlib.Omega.{arith}
 use lib.Dec.{eqb}
 use lib.ListN.{length, getD}
 use lib.Ieee.{Float, binary64, nan, neg, ne, add, sub, mul}
-use Rattle.lists.specs.UpTo.{each, when}
+use Rattle.lists.specs.UpTo.{upTo, sum, bit, count, each, when}
 use Rattle.lists.specs.Entries.{Entry, entry}
 use Rattle.lists.proofs.Each.{each-ext}
+use Rattle.lists.proofs.Sums.{count-le, sum-mono, sum-next}
 use Rattle.records.specs.AcNetwork.{AcNetwork}
-use Rattle.numbering.specs.Numbering.{nvar, columnNumber, rowNumber}
+use Rattle.numbering.specs.Numbering.{nvar, ncon, columnNumber, rowNumber}
+use Rattle.numbering.specs.Blocks.{total}
+use Rattle.numbering.specs.Layout.{layoutColumns, layoutColumn}
+use Rattle.numbering.specs.declared.ColumnName.the-variants.{Pg}
+use Rattle.rows.specs.Ops.{rounded}
+use Rattle.numbering.specs.declared.SocWrLayout.{SocWrLayout}
+use Rattle.numbering.proofs.Layouts.{nvar-layout}
 use Rattle.numbering.specs.declared.RowName.{RowName}
 use Rattle.rows.specs.Rows.{Term, terms, b, zero64}
 use Rattle.rows.specs.Program.{nonzero, slack, sumOf}
 use Rattle.kkt.specs.Kkt.{arrow, kktRow, scaled, plainRow, boundRow, coneRow, coneBlock}
-use Rattle.lines.specs.Line.{lineAt, spotSum, lineSum, lineSlack, Stands, coneLine, ConeStands}
+use Rattle.lines.specs.Line.{networkIn, Network, lineAt, spotSum, lineSum, lineSlack, Within, Stands, coneLine, ConeStands}
+use Rattle.lines.specs.Ohm.{ohmAt, OhmStands}
+use Rattle.lines.specs.declared.Ohm.{Ohm}
+use Rattle.lines.proofs.Lines.{in-range}
 use Rattle.lines.specs.declared.Line.{Line}
 use Rattle.lines.specs.declared.Cone.{Cone}
 use Rattle.entries.specs.declared.Quad.{Quad}
-use Rattle.entries.specs.Writes.{boundLine, lineIn, part, dualsOf, slacksOf, byX, byZ, coneRowOf, coneOf, plainAt, plainCone, coneLines, dual, rowIn, coneIn}
+use Rattle.entries.specs.Writes.{Given, boundLine, lineIn, part, dualsOf, slacksOf, byX, byZ, coneRowOf, coneOf, plainAt, plainCone, coneLines, dual, rowIn, coneIn}
 
 -- the sum of entries at x, on top of a
 unfoldable dot : List Float → Float → List Entry → Float
@@ -108,3 +118,62 @@ last-part q zero x y z = absurd (x refl)
 last-part q (suc zero) x y z = absurd (y refl)
 last-part q (suc (suc zero)) x y z = absurd (z refl)
 last-part q (suc (suc (suc l))) x y z = refl
+
+-- ---- what a writer of a row asks, of a network
+module _ {l : SocWrLayout} {bytes : List ℕ} (h : Network l bytes) where
+  pub nvar-is : {v : ℕ} → v ≡ total (layoutColumns l) → v ≡ nvar (networkIn l bytes)
+  nvar-is e = e ∙ ap (λ (k : SocWrLayout). total (layoutColumns k)) (h .layout) ∙ nvar-layout (networkIn l bytes)
+
+  pub small : nvar (networkIn l bytes) + ncon (networkIn l bytes) < 2 ^ 32
+  small =
+      let q = in-range h in
+      let G = networkIn l bytes in
+      omega (arith, h .accepted .counts-add, count-le (l .m) (G .limited), count-le (l .k) (G .piecewise))
+
+pub record Ready (v : ℕ) (x z : List Float) (d : Bool) (line : Line) (es : List Entry) : Type 0 where
+  pub within : Within (length x) (length z) line
+  pub small : v + length z < 2 ^ 32
+  pub same : lineIn v x z d line ≡ es
+
+pub record ConeReady (v : ℕ) (x z : List Float) (d : Bool) (c : Cone) (n : ℕ) (es : List Entry) : Type 0 where
+  pub within : (j : ℕ) → Within (length x) (length z) (coneLine c j)
+  pub small : v + length z < 2 ^ 32
+  pub same : coneLines v x z d c n ≡ es
+
+module _ {l : SocWrLayout} {bytes : List ℕ} {x z : List Float} {v : ℕ} (g : Given l bytes x z) (e : v ≡ total (layoutColumns l)) (d : Bool) where
+  fits : v + length z < 2 ^ 32
+  fits = omega (arith, small (g .network), nvar-is (g .network) e, g .z-length)
+
+  inside : {line : Line} → Within (nvar (networkIn l bytes)) (ncon (networkIn l bytes)) line → Within (length x) (length z) line
+  inside w = record { row = omega (arith, w .row, g .z-length); first = omega (arith, w .first, g .x-length); second = omega (arith, w .second, g .x-length) }
+
+  pub ready : {r : RowName} {line : Line} → Stands (networkIn l bytes) r line → Ready v x z d line (rowIn (networkIn l bytes) x z d r)
+  ready s = record { within = inside (s .within); small = fits; same = rw (nvar-is (g .network) e) (line-in s x z d) }
+
+  pub cone-ready : {n : ℕ} {r : ℕ → RowName} {c : Cone} → ConeStands (networkIn l bytes) n r c → ConeReady v x z d c n (coneIn (networkIn l bytes) x z d n r)
+  cone-ready {n} {r} {c} s = record { within = λ j. inside (s .within j); small = fits; same = rw (nvar-is (g .network) e) (cone-in x z n r c s d) }
+
+-- of an Ohm row
+pub ohm-same : {l : SocWrLayout} {bytes : List ℕ} {v : ℕ} {r : RowName} {o : Ohm} → Network l bytes → v ≡ total (layoutColumns l) → OhmStands (networkIn l bytes) r o
+    → (v + o .row < 2 ^ 32) × (ohmAt (v + o .row) o ≡ plainRow (networkIn l bytes) r)
+ohm-same {l} {bytes} {v} {r} {o} h e s =
+    (omega (arith, small h, nvar-is h e, s .within), ap₂ (λ (a k : ℕ). ohmAt (a + k) o) (nvar-is h e) (s .number) ∙ sym (s .entries (kktRow (networkIn l bytes) r)))
+
+pub segments-le : {l : SocWrLayout} {bytes : List ℕ} → Network l bytes → (g : ℕ) → g ≤ l .k → sum g (networkIn l bytes .segments) ≤ l .s
+segments-le {l} {bytes} h g d = omega (arith, sum-mono g (l .k) (networkIn l bytes .segments) d, h .accepted .counts-add)
+
+-- counts over the records, one record more
+pub count-more : {i : ℕ} (n : ℕ) (p : ℕ → Bool) (j : ℕ) → i ≡ count n p → j ≡ bit (p n) → i + j ≡ count (n + 1) p
+count-more n p j e q = omega (arith, sum-next n (λ i. bit (p i)))
+
+pub sum-more : {i : ℕ} (n : ℕ) (a : ℕ → ℕ) (j : ℕ) → i ≡ sum n a → j ≡ a n → i + j ≡ sum (n + 1) a
+sum-more n a j e q = omega (arith, sum-next n a)
+
+pub none-yet : (a : ℕ → ℕ) → 0 ≡ sum 0 a
+unfolding upTo
+none-yet a = refl
+
+-- P at generator g
+abbrev pub diagonalAt : SocWrLayout → List ℕ → ℕ → List Entry
+diagonalAt l bytes g =
+    nonzero (layoutColumn l (Pg g)) (layoutColumn l (Pg g)) (mul binary64 (rounded .two) (networkIn l bytes .cq g))

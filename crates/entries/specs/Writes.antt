@@ -12,7 +12,7 @@ use Rattle.numbering.specs.Numbering.{nvar, ncon, rowNumber}
 use Rattle.numbering.specs.declared.SocWrLayout.{SocWrLayout}
 use Rattle.numbering.specs.declared.RowName.{RowName}
 use Rattle.rows.specs.Rows.{zero64}
-use Rattle.rows.specs.Program.{nonzero, slack}
+use Rattle.rows.specs.Program.{nonzero, slack, thermalFrom, thermalTo}
 use Rattle.kkt.specs.Kkt.{arrow, plainRow, boundRow, coneBlock}
 use Rattle.lines.specs.Line.{networkIn, Network, lineAt, lineSlack, coneLine}
 use Rattle.lines.specs.declared.Line.{Line}
@@ -87,3 +87,7 @@ rowIn G x z d r = cond d (boundRow G (slack G x) (dual G z) r) (plainRow G r)
 -- the rows r 0, .., r (n - 1) as they are, or where the test holds as a second-order cone
 unfoldable pub coneIn : AcNetwork Float → List Float → List Float → Bool → ℕ → (ℕ → RowName) → List Entry
 coneIn G x z d n r = cond d (coneBlock G (slack G x) (dual G z) n r) (each n (λ l. plainRow G (r l)))
+
+-- the cones of a branch, where it is limited
+unfoldable pub thermalIn : AcNetwork Float → List Float → List Float → Bool → ℕ → List Entry
+thermalIn G x z d e = when (G .limited e) (coneIn G x z d 3 (thermalFrom e) ++ coneIn G x z d 3 (thermalTo e))

@@ -1,5 +1,9 @@
 // The entries of the KKT matrix, written to three lent lists.
+mod blocks;
+mod bounds;
 mod cones;
+mod ohm;
+mod segments;
 mod single;
 
 // A float for each row of a cone.
@@ -8,4 +12,24 @@ pub struct Quad {
     pub b: f64,
     pub c: f64,
     pub d: f64,
+}
+
+// The kinds of rows that bound one thing each: a voltage, a dispatch, an angle.
+pub enum Bound {
+    Wub,
+    Wlb,
+    Pgub,
+    Pglb,
+    Qgub,
+    Qglb,
+    Angub,
+    Anglb,
+}
+
+// The kinds of Ohm rows.
+pub enum Flow {
+    Pf,
+    Qf,
+    Pt,
+    Qt,
 }
