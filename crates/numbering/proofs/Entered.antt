@@ -1,10 +1,11 @@
 -- Answers after a check, and what blocks' lengths give of blocks. Assumes nothing.
 use Prim.Native.Nat.{ℕ, zero, suc, _+_, _*_, _<_, _≤_}
-use mathlib.Core.Path.{_≡_, refl, sym, _∙_, subst}
+use mathlib.Core.Path.{_≡_, refl, sym, ap, _∙_, subst}
 use mathlib.Core.Bool.{true, false}
 use mathlib.Core.List.{List, [], _∷_}
 use native.Mathlib.Omega.{arith}
 use native.Mathlib.Numerals.{add-one}
+use native.Mathlib.Nat.{one-mul}
 use lib.Dec.{T}
 use borrow.Author.Tests.{lt-ltb, le-ltb}
 use lib.ListN.{length, getD}
@@ -40,19 +41,19 @@ pub answered : {d : Checked} (a : Lookup) → d ≡ Accepted → a ≡ afterChec
 unfolding afterCheck
 answered a e = rw e
 
--- ---- lengths of blocks
-abbrev pub Sizes : List Block → List ℕ → Type 0
-Sizes [] [] = Unit
-Sizes [] (w ∷ ws) = ⊥
-Sizes (B ∷ bs) [] = ⊥
-Sizes (B ∷ bs) (w ∷ ws) = (size B ≡ w) × Sizes bs ws
+-- ---- the first c blocks have these lengths
+abbrev pub Sizes : List Block → List ℕ → ℕ → Type 0
+Sizes bs ws zero = Unit
+Sizes [] ws (suc c) = ⊥
+Sizes (B ∷ bs) [] (suc c) = ⊥
+Sizes (B ∷ bs) (w ∷ ws) (suc c) = (size B ≡ w) × Sizes bs ws c
 
-size-at : (bs : List Block) (ws : List ℕ) → Sizes bs ws → (b : ℕ) → size (blockAt bs b) ≡ getD ws b 0
-size-at [] [] h b = omega arith
-size-at [] (w ∷ ws) h b = absurd h
-size-at (B ∷ bs) [] h b = absurd h
-size-at (B ∷ bs) (w ∷ ws) h zero = h .0
-size-at (B ∷ bs) (w ∷ ws) h (suc b) = size-at bs ws (h .1) b
+size-at : (bs : List Block) (ws : List ℕ) (c : ℕ) → Sizes bs ws c → (b : ℕ) → b < c → size (blockAt bs b) ≡ getD ws b 0
+size-at bs ws zero h b l = absurd (omega arith)
+size-at [] ws (suc c) h b l = absurd h
+size-at (B ∷ bs) [] (suc c) h b l = absurd h
+size-at (B ∷ bs) (w ∷ ws) (suc c) h zero l = h .0
+size-at (B ∷ bs) (w ∷ ws) (suc c) h (suc b) l = size-at bs ws c (h .1) b (omega arith)
 
 pub start-more : (ws : List ℕ) (b : ℕ) → startIn ws (b + 1) ≡ startIn ws b + getD ws b 0
 unfolding startIn
@@ -75,10 +76,10 @@ before-first [] = refl
 before-first (B ∷ bs) = refl
 
 -- where a block starts
-pub start-is : (bs : List Block) (ws : List ℕ) → Sizes bs ws → (b : ℕ) → startIn ws b ≡ before bs b
-start-is bs ws h zero = start-none ws ∙ sym (before-first bs)
-start-is bs ws h (suc b) =
-    omega (arith, rw add-one at (start-more ws b), start-is bs ws h b, size-at bs ws h b, before-next bs b)
+pub start-is : (bs : List Block) (ws : List ℕ) (c : ℕ) → Sizes bs ws c → (b : ℕ) → b ≤ c → startIn ws b ≡ before bs b
+start-is bs ws c h zero l = start-none ws ∙ sym (before-first bs)
+start-is bs ws c h (suc b) l =
+    omega (arith, rw add-one at (start-more ws b), start-is bs ws c h b (omega arith), size-at bs ws c h b (omega arith), before-next bs b)
 
 -- ---- the first c blocks have one point for each record
 abbrev pub Plain : List Block → List ℕ → ℕ → Type 0
@@ -94,23 +95,29 @@ plain-at (B ∷ bs) [] (suc c) h b l = absurd h
 plain-at (B ∷ bs) (w ∷ ws) (suc c) h zero l = h .0
 plain-at (B ∷ bs) (w ∷ ws) (suc c) h (suc b) l = plain-at bs ws c (h .1) b (omega arith)
 
+pub plain-sizes : (bs : List Block) (ws : List ℕ) (c : ℕ) → Plain bs ws c → Sizes bs ws c
+plain-sizes bs ws zero h = tt
+plain-sizes [] ws (suc c) h = h
+plain-sizes (B ∷ bs) [] (suc c) h = h
+plain-sizes (B ∷ bs) (w ∷ ws) (suc c) h = (ap size (h .0) ∙ one-mul w, plain-sizes bs ws c (h .1))
+
 -- ---- a lookup in such a block, where the layout is in range
 module _ (l : SocWrLayout) (ok : layoutCause l ≡ Accepted) (bs : List Block) (ws : List ℕ) (c : ℕ) (h : Plain bs ws c) (b i : ℕ) (k : b < c) where
   pub plain-past : getD ws b 0 ≤ i → Lookup.Refused (PastEnd i) ≡ inLayout l bs (key b i 0)
   unfolding inLayout afterCheck
   plain-past p = rw (ok, plain-at bs ws c h b k, le-ltb i (getD ws b 0) p)
 
-  pub plain-found : Sizes bs ws → i < getD ws b 0 → (x : ℕ) → x ≡ startIn ws b → Lookup.Number (x + i) ≡ inLayout l bs (key b i 0)
+  pub plain-found : i < getD ws b 0 → (x : ℕ) → x ≡ startIn ws b → Lookup.Number (x + i) ≡ inLayout l bs (key b i 0)
   unfolding inLayout afterCheck
-  plain-found z p x e =
-      let q : x + i ≡ before bs b + (1 * i + 0) = omega (arith, start-is bs ws z b) in
+  plain-found p x e =
+      let q : x + i ≡ before bs b + (1 * i + 0) = omega (arith, start-is bs ws c (plain-sizes bs ws c h) b (omega arith)) in
       rw (ok, plain-at bs ws c h b k, lt-ltb i (getD ws b 0) p, q)
 
-pub column-sizes : (l : SocWrLayout) → Sizes (layoutColumns l) (columnSizes l)
+pub column-sizes : (l : SocWrLayout) → Sizes (layoutColumns l) (columnSizes l) 10
 column-sizes l =
     (omega arith, (omega arith, (omega arith, (omega arith, (omega arith, (omega arith, (omega arith, (omega arith, (omega arith, (omega arith, tt))))))))))
 
-pub row-sizes : (l : SocWrLayout) → Sizes (layoutRows l) (rowSizes l)
+pub row-sizes : (l : SocWrLayout) → Sizes (layoutRows l) (rowSizes l) 17
 row-sizes l =
     (omega arith, (omega arith, (omega arith, (omega arith, (omega arith, (omega arith, (omega arith, (omega arith, (omega arith, (omega arith, (omega arith, (omega arith, (omega arith, (omega arith, (omega arith, (omega arith, (omega arith, tt)))))))))))))))))
 

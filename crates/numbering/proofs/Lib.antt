@@ -3,3 +3,6 @@ pub mod Layouts
 pub mod Points
 pub mod Names
 pub mod Entered
+pub mod Asked
+pub mod Standing
+pub mod Answers

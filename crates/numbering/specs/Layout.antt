@@ -21,6 +21,10 @@ use Rattle.numbering.specs.declared.RowName.{RowName}
 abbrev pub layoutOf : {A : Type 0} → AcNetwork A → SocWrLayout
 layoutOf G = record { n = G .n; m = G .m; k = G .k; s = G .s; t = limits G; «cost_columns» = curves G }
 
+-- counts alone, with no limited branch and no cost column
+abbrev pub countedOf : ℕ → ℕ → ℕ → ℕ → SocWrLayout
+countedOf n m k s = record { n = n; m = m; k = k; s = s; t = 0; «cost_columns» = 0 }
+
 -- 1: the record check's causes, then "in a layout handed in, T above m or cost columns above k"
 unfoldable pub layoutCause : SocWrLayout → Checked
 layoutCause l =

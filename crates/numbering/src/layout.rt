@@ -1,67 +1,29 @@
 // The layout's methods: each tests the layout handed in, and then the index.
 use crate::Lookup;
-use crate::Place;
 use crate::SocWrLayout;
 use crate::inner;
+use crate::inner::blocks;
 use refusals::Checked;
 use refusals::Refusal;
 use refusals::is_refused;
 use refusals::or_else;
 use refusals::refuse_unless;
 ghost use mathlib.Core.Path.{_≡_};
-ghost use Prim.Native.Nat.{ℕ, _+_, _*_, _≤_, _<_};
-ghost use lib.ListN.{length, getD};
+ghost use Prim.Native.Nat.{_<_};
 ghost use Rattle.numbering.specs.Blocks.{key, before, total};
-ghost use Rattle.numbering.specs.Layout.{layoutCause, InRange, layoutColumns, layoutRows, columnSizes, rowSizes, startIn, InBlock, nEqOf, nIneqOf};
+ghost use Rattle.numbering.specs.Layout.{layoutCause, layoutColumns, layoutRows, nEqOf, nIneqOf};
 ghost use Rattle.numbering.specs.Lookups.{afterCheck, inLayout, columnIn, rowIn, sizeIn};
 ghost use Rattle.numbering.specs.declared.Lookup.the-variants.{Absent};
 ghost use Rattle.numbering.specs.declared.ColumnName.the-variants.{Pg, Qg, W, Wr, Wi, Pf, Pt, Qf, Qt};
 ghost use Rattle.numbering.specs.declared.RowName.the-variants.{Pbal, Qbal, OhmPf, OhmQf, OhmPt, OhmQt, Wub, Wlb, Pgub, Pglb, Qgub, Qglb, Angub, Anglb, Jabr};
 
 // A refused check as an answer.
-fn refused(check: Checked) -> Lookup
+pub fn refused(check: Checked) -> Lookup
     ensures { λ r. ⌜ r ≡ afterCheck check Absent ⌝ }
 {
     match check {
         Checked::Accepted => Lookup::Absent,
         Checked::Refused(cause) => Lookup::Refused(cause),
-    }
-}
-
-// Where a block starts, given the blocks' lengths.
-fn start_of(sizes: &[usize], block: usize) -> usize
-    requires { ⌜ (block ≤ length (now sizes)) × (length (now sizes) ≤ 17) ⌝ }
-    requires { ⌜ ((j : ℕ) → getD (now sizes) j 0 ≤ 65536) ⌝ }
-    ensures { λ r. ⌜ r ≡ startIn (now (sizes .entry)) block ⌝ }
-    ensures { λ r. ⌜ r ≤ 1114112 ⌝ }
-{
-    let mut start = 0;
-    let mut j = 0;
-    while j < block {
-        start += sizes[j];
-        j += 1;
-    }
-    start
-}
-
-// The block that point p is in, and its place there.
-fn block_of(sizes: &[usize], p: usize) -> Place
-    requires { ⌜ p < startIn (now sizes) (length (now sizes)) ⌝ }
-    ensures { λ q. ⌜ InBlock (now (sizes .entry)) p q ⌝ }
-    ensures { λ q. ⌜ q .item < length (now (sizes .entry)) ⌝ }
-{
-    let mut block = 0;
-    let mut rest = p;
-    loop {
-        let here = sizes[block];
-        if rest < here {
-            return Place {
-                item: block,
-                at: rest,
-            };
-        }
-        rest -= here;
-        block += 1;
     }
 }
 
@@ -79,48 +41,6 @@ impl SocWrLayout {
         )
     }
 
-    fn column_sizes(self) -> [usize; 10]
-        ensures { λ r. ⌜ r ≡ columnSizes self ⌝ }
-    {
-        [
-            self.k,
-            self.k,
-            self.n,
-            self.m,
-            self.m,
-            self.m,
-            self.m,
-            self.m,
-            self.m,
-            self.cost_columns,
-        ]
-    }
-
-    fn row_sizes(self) -> [usize; 17]
-        requires { ⌜ InRange self ⌝ }
-        ensures { λ r. ⌜ r ≡ rowSizes self ⌝ }
-    {
-        [
-            self.n,
-            self.n,
-            self.m,
-            self.m,
-            self.m,
-            self.m,
-            self.n,
-            self.n,
-            self.k,
-            self.k,
-            self.k,
-            self.k,
-            self.m,
-            self.m,
-            self.s,
-            4 * self.m,
-            6 * self.t,
-        ]
-    }
-
     // A column of a block whose records have one column each.
     fn plain_column(self, block: usize, i: usize) -> Lookup
         requires { ⌜ block < 9 ⌝ }
@@ -130,11 +50,11 @@ impl SocWrLayout {
         if is_refused(cause) {
             return refused(cause);
         }
-        let sizes = self.column_sizes();
+        let sizes = blocks::column_sizes(self);
         if sizes[block] <= i {
             return Lookup::Refused(Refusal::PastEnd(i as u64));
         }
-        Lookup::Number((start_of(&sizes, block) + i) as u32)
+        Lookup::Number((blocks::start_of(&sizes, block) + i) as u32)
     }
 
     // A row of a block whose records have one row each.
@@ -146,11 +66,11 @@ impl SocWrLayout {
         if is_refused(cause) {
             return refused(cause);
         }
-        let sizes = self.row_sizes();
+        let sizes = blocks::row_sizes(self);
         if sizes[block] <= i {
             return Lookup::Refused(Refusal::PastEnd(i as u64));
         }
-        Lookup::Number((start_of(&sizes, block) + i) as u32)
+        Lookup::Number((blocks::start_of(&sizes, block) + i) as u32)
     }
 
     pub fn col_pg(self, g: usize) -> Lookup

@@ -2,7 +2,10 @@
 use refusals::Refusal;
 
 pub mod inner;
+pub mod keys;
 pub mod layout;
+pub mod lookups;
+pub mod named;
 
 // A point of a row of things that have several points each: the thing, and the place in it.
 pub struct Place {

@@ -1,12 +1,12 @@
--- `numbering::layout::start_of` meets its contract. The start so far is that of the blocks passed. Assumes nothing.
+-- `numbering::inner::blocks::start_of` meets its contract. The start so far is that of the blocks passed. Assumes nothing.
 use borrow.Author.Needs.{needs}
 use Prim.Native.Nat.{_≤_, _*_, _-_}
 use mathlib.Core.Path.{_≡_, sym}
 use native.Mathlib.Omega.{arith}
 use Rattle.numbering.specs.Layout.{startIn}
 use Rattle.numbering.proofs.Entered.{start-none, start-more}
-use Rattle.numbering.proofs.layout.start_of.Statement.{statement}
-use Rattle.numbering.proofs.layout.start_of.Tie as tie
+use Rattle.numbering.proofs.inner.blocks.start_of.Statement.{statement}
+use Rattle.numbering.proofs.inner.blocks.start_of.Tie as tie
 
 abbrev Inv-loop : tie.InvT-loop
 Inv-loop sizes block start₀ j₀ start j = (j ≤ block) × (start ≤ 65536 * j) × (start ≡ startIn sizes j)

@@ -1,4 +1,4 @@
--- `numbering::layout::block_of` meets its contract. The point lies past the blocks passed, by the rest. Assumes nothing.
+-- `numbering::inner::blocks::block_of` meets its contract. The point lies past the blocks passed, by the rest. Assumes nothing.
 use borrow.Author.Needs.{needs}
 use Prim.Native.Nat.{_+_, _<_, _≤_, _-_}
 use mathlib.Core.Path.{_≡_}
@@ -6,8 +6,8 @@ use native.Mathlib.Omega.{arith}
 use lib.ListN.{length}
 use Rattle.numbering.specs.Layout.{startIn}
 use Rattle.numbering.proofs.Entered.{start-none, start-more, start-later, start-some}
-use Rattle.numbering.proofs.layout.block_of.Statement.{statement}
-use Rattle.numbering.proofs.layout.block_of.Tie as tie
+use Rattle.numbering.proofs.inner.blocks.block_of.Statement.{statement}
+use Rattle.numbering.proofs.inner.blocks.block_of.Tie as tie
 
 abbrev Inv-loop : tie.InvT-loop
 Inv-loop sizes p block₀ rest₀ block rest = (block < length sizes) × (startIn sizes block + rest ≡ p)

@@ -1,0 +1,5 @@
+pub mod Magnitude
+pub mod Residual
+pub mod Selectors
+pub mod Combination
+pub mod Checks
