@@ -11,6 +11,7 @@ use Rattle.records.specs.AcNetwork.{AcNetwork}
 use Rattle.numbering.specs.Numbering.{nvar, ncon, rowNumber}
 use Rattle.numbering.specs.declared.SocWrLayout.{SocWrLayout}
 use Rattle.numbering.specs.declared.RowName.{RowName}
+use Rattle.numbering.specs.declared.RowName.the-variants.{Wub, Wlb, Pgub, Pglb}
 use Rattle.rows.specs.Rows.{zero64}
 use Rattle.rows.specs.Program.{nonzero, slack, thermalFrom, thermalTo}
 use Rattle.kkt.specs.Kkt.{arrow, plainRow, boundRow, coneBlock}
@@ -91,3 +92,7 @@ coneIn G x z d n r = cond d (coneBlock G (slack G x) (dual G z) n r) (each n (λ
 -- the cones of a branch, where it is limited
 unfoldable pub thermalIn : AcNetwork Float → List Float → List Float → Bool → ℕ → List Entry
 thermalIn G x z d e = when (G .limited e) (coneIn G x z d 3 (thermalFrom e) ++ coneIn G x z d 3 (thermalTo e))
+
+-- the first four kinds of `inequalities`
+abbrev pub firstBounds : AcNetwork Float → (RowName → List Entry) → List Entry
+firstBounds G f = each (G .n) (λ i. f (Wub i)) ++ each (G .n) (λ i. f (Wlb i)) ++ each (G .k) (λ g. f (Pgub g)) ++ each (G .k) (λ g. f (Pglb g))

@@ -55,10 +55,12 @@ module _ {A : Type 0} (G : AcNetwork A) where
       ]
 
   pub valid-row : (x : Key) → Valid (rowBlocks G) x → (x .block < 17) × (x .block < 14 → x .place ≡ 0)
-  valid-row x v =
-      (among (rowBlocks G) (x .block) (x .item) (v .item), λ k.
-      let h1 : x .place < 1 = rw (plain-at (rowBlocks G) (rowSizes (layoutOf G)) 14 rows-even (x .block) k) at (v .place) in
-      omega arith)
+  valid-row x v = (
+    among (rowBlocks G) (x .block) (x .item) (v .item),
+    λ k.
+        let h1 : x .place < 1 = rw (plain-at (rowBlocks G) (rowSizes (layoutOf G)) 14 rows-even (x .block) k) at (v .place) in
+        omega arith,
+  )
 
 -- a point in one of the first c blocks, whose records have one point each
 even-stands : (bs : List Block) (ws : List ℕ) (c d : ℕ) → Plain bs ws c → Sizes bs ws d → c ≤ d → (p : ℕ) (q : Place) → InBlock ws p q → q .item < c
