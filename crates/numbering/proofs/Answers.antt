@@ -12,7 +12,7 @@ use Rattle.refusals.proofs.Laws.{orElse-refused}
 use Rattle.records.specs.AcNetwork.{AcNetwork}
 use Rattle.numbering.specs.Blocks.{KeyStands}
 use Rattle.numbering.specs.Numbering.{SameKey, columnKey, columnOf, columnBlocks, columnAt, rowKey, rowOf, rowBlocks, rowAt}
-use Rattle.numbering.specs.Lookups.{columnAnswer, rowAnswer}
+use Rattle.numbering.specs.Lookups.{columnAnswer, rowAnswer, layoutAnswer}
 use Rattle.numbering.specs.declared.Key.{Key}
 use Rattle.numbering.specs.declared.ColumnName.{ColumnName}
 use Rattle.numbering.specs.declared.RowName.{RowName}
@@ -20,6 +20,9 @@ use Rattle.numbering.specs.declared.ColumnAnswer.{ColumnAnswer}
 use Rattle.numbering.specs.declared.ColumnAnswer.the-variants as ColumnAnswer
 use Rattle.numbering.specs.declared.RowAnswer.{RowAnswer}
 use Rattle.numbering.specs.declared.RowAnswer.the-variants as RowAnswer
+use Rattle.numbering.specs.declared.SocWrLayout.{SocWrLayout}
+use Rattle.numbering.specs.declared.LayoutAnswer.{LayoutAnswer}
+use Rattle.numbering.specs.declared.LayoutAnswer.the-variants as LayoutAnswer
 use Rattle.numbering.proofs.Points.{key-only}
 use Rattle.numbering.proofs.Names.{same-key, column-of, row-of}
 
@@ -64,6 +67,19 @@ pub row-given : {d : Checked} (n p : ℕ) (x y : RowName) → d ≡ Accepted →
     → RowAnswer.Row x ≡ rowAnswer (d orElse refuseUnless (ltb p n) (PastEnd p)) y
 unfolding rowAnswer _orElse_ refuseUnless
 row-given n p x y e l q = rw (e, lt-ltb p n l, q)
+
+-- ---- the layout
+layout-alike : (c : Checked) (x y : SocWrLayout) → isRefused c ≡ true → layoutAnswer c x ≡ layoutAnswer c y
+unfolding layoutAnswer isRefused
+layout-alike Accepted x y h = absurd (subst T (sym h) tt)
+layout-alike (Refused cause) x y h = refl
+
+pub layout-stopped : {r : LayoutAnswer} {c d : Checked} (x y : SocWrLayout) → r ≡ layoutAnswer c x → c ≡ d → isRefused c ≡ true → r ≡ layoutAnswer d y
+layout-stopped {r} {c} {d} x y p q h = p ∙ layout-alike c x y h ∙ ap (λ (a : Checked). layoutAnswer a y) q
+
+pub layout-given : {d : Checked} (x y : SocWrLayout) → d ≡ Accepted → x ≡ y → LayoutAnswer.Layout x ≡ layoutAnswer d y
+unfolding layoutAnswer
+layout-given x y e q = rw (e, q)
 
 -- ---- the name of the key that stands at p
 module _ {A : Type 0} (G : AcNetwork A) (p : ℕ) (x : Key) where

@@ -6,3 +6,5 @@ pub mod Entered
 pub mod Asked
 pub mod Standing
 pub mod Answers
+pub mod ConeLengths
+pub mod Theorem

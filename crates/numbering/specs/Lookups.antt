@@ -2,14 +2,14 @@
 use Prim.Native.Nat.{ℕ, _+_, _*_}
 use mathlib.Core.Bool.{Bool, true, false, cond}
 use mathlib.Core.List.{List, [], _∷_, _++_}
-use lib.Dec.{eqb, ltb, leb}
+use lib.Dec.{eqb, ltb}
 use lib.ListN.{length, replicate}
 use lib.Ieee.{Float}
-use Rattle.refusals.specs.Refusals.{_orElse_, refuseUnless, numberOf as causeNumber, valueOf as causeValue}
+use Rattle.refusals.specs.Refusals.{_orElse_, refuseUnless, roomFor, numberOf as causeNumber, valueOf as causeValue}
 use Rattle.refusals.specs.declared.Checked.{Checked}
 use Rattle.refusals.specs.declared.Checked.the-variants.{Accepted, Refused}
 use Rattle.refusals.specs.declared.Refusal.{Refusal}
-use Rattle.refusals.specs.declared.Refusal.the-variants.{PastEnd, OutputTooShort}
+use Rattle.refusals.specs.declared.Refusal.the-variants.{PastEnd}
 use Rattle.records.specs.AcNetwork.{AcNetwork}
 use Rattle.records.specs.Network.{networkOf}
 use Rattle.records.specs.Check.{checkOf}
@@ -153,4 +153,4 @@ coneCount l = 2 + l .m + 2 * l .t
 
 -- 1 or the record check, then 10
 abbrev pub conesCheck : Checked → SocWrLayout → List ℕ → Checked
-conesCheck c l out = c orElse refuseUnless (leb (coneCount l) (length out)) (OutputTooShort (coneCount l))
+conesCheck c l out = c orElse roomFor (coneCount l) (length out)

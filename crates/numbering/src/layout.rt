@@ -1,4 +1,5 @@
 // The layout's methods: each tests the layout handed in, and then the index.
+use crate::LayoutAnswer;
 use crate::Lookup;
 use crate::SocWrLayout;
 use crate::inner;
@@ -11,8 +12,8 @@ use refusals::refuse_unless;
 ghost use mathlib.Core.Path.{_≡_};
 ghost use Prim.Native.Nat.{_<_};
 ghost use Rattle.numbering.specs.Blocks.{key, before, total};
-ghost use Rattle.numbering.specs.Layout.{layoutCause, layoutColumns, layoutRows, nEqOf, nIneqOf};
-ghost use Rattle.numbering.specs.Lookups.{afterCheck, inLayout, columnIn, rowIn, sizeIn};
+ghost use Rattle.numbering.specs.Layout.{countedOf, layoutCause, layoutColumns, layoutRows, nEqOf, nIneqOf};
+ghost use Rattle.numbering.specs.Lookups.{afterCheck, inLayout, columnIn, rowIn, sizeIn, layoutAnswer, newLayout};
 ghost use Rattle.numbering.specs.declared.Lookup.the-variants.{Absent};
 ghost use Rattle.numbering.specs.declared.ColumnName.the-variants.{Pg, Qg, W, Wr, Wi, Pf, Pt, Qf, Qt};
 ghost use Rattle.numbering.specs.declared.RowName.the-variants.{Pbal, Qbal, OhmPf, OhmQf, OhmPt, OhmQt, Wub, Wlb, Pgub, Pglb, Qgub, Qglb, Angub, Anglb, Jabr};
@@ -27,7 +28,27 @@ pub fn refused(check: Checked) -> Lookup
     }
 }
 
+fn no_layout(check: Checked) -> LayoutAnswer
+    ensures { λ r. ⌜ r ≡ layoutAnswer check (countedOf 0 0 0 0) ⌝ }
+{
+    match check {
+        Checked::Accepted => LayoutAnswer::Layout(inner::counted(0, 0, 0, 0)),
+        Checked::Refused(cause) => LayoutAnswer::Refused(cause),
+    }
+}
+
 impl SocWrLayout {
+    // The layout of a network, made from its counts and records.
+    pub fn new(n: usize, m: usize, k: usize, s: usize, bytes: &[u8]) -> LayoutAnswer
+        ensures { λ r. ⌜ r ≡ newLayout n m k s (now (bytes .entry)) ⌝ }
+    {
+        let check = records::check_records(n, m, k, s, bytes);
+        if is_refused(check) {
+            return no_layout(check);
+        }
+        LayoutAnswer::Layout(inner::layout(n, m, k, s, bytes))
+    }
+
     // 1: the first of n, m, k, S, T, cost columns that is too large.
     pub fn cause(self) -> Checked
         ensures { λ r. ⌜ r ≡ layoutCause self ⌝ }

@@ -1,6 +1,7 @@
 // Numbering of the rows and columns of the SOCWR program.
 use refusals::Refusal;
 
+pub mod cones;
 pub mod inner;
 pub mod keys;
 pub mod layout;
