@@ -1,0 +1,4 @@
+pub mod Rooms
+pub mod Laws
+pub mod Balances
+pub mod Answers

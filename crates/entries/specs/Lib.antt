@@ -1,0 +1,4 @@
+pub mod Writes
+pub mod Kinds
+pub mod Ends
+pub mod Answer
