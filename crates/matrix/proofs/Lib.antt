@@ -1,0 +1,3 @@
+pub mod EveryPoint
+pub mod Shaped
+pub mod Cuts
