@@ -1,2 +1,4 @@
+pub mod Tallies
+pub mod Layouts
 pub mod Points
 pub mod Names

@@ -1,5 +1,6 @@
 pub mod Blocks
 pub mod Numbering
 pub mod Layout
+pub mod Tally
 pub mod Lookups
 pub mod Numbered

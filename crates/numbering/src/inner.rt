@@ -1,11 +1,33 @@
 // The formulas of the Rust's `SocWrLayout`, for a layout whose counts are in range and an index below its count.
 use crate::SocWrLayout;
+use crate::Tally;
+
+pub mod tally;
+
 ghost use mathlib.Core.Path.{_≡_};
 ghost use Prim.Native.Nat.{_+_, _*_, _≤_, _<_};
 ghost use Rattle.numbering.specs.Blocks.{before, total};
-ghost use Rattle.numbering.specs.Layout.{InRange, layoutColumns, layoutRows, nEqOf, nIneqOf, layoutColumn, layoutRow};
+ghost use Rattle.records.specs.Network.{Accepted, networkOf};
+ghost use Rattle.numbering.specs.Layout.{InRange, layoutOf, layoutColumns, layoutRows, nEqOf, nIneqOf, layoutColumn, layoutRow};
 ghost use Rattle.numbering.specs.declared.ColumnName.the-variants.{Pg, Qg, W, Wr, Wi, Pf, Pt, Qf, Qt};
 ghost use Rattle.numbering.specs.declared.RowName.the-variants.{Pbal, Qbal, OhmPf, OhmQf, OhmPt, OhmQt, Wub, Wlb, Pgub, Pglb, Qgub, Qglb, Angub, Anglb, Jabr};
+
+// The layout of an accepted network.
+pub fn layout(n: usize, m: usize, k: usize, s: usize, bytes: &[u8]) -> SocWrLayout
+    requires { ⌜ Accepted n m k s (now bytes) ⌝ }
+    ensures { λ r. ⌜ r ≡ layoutOf (networkOf n m k s (now (bytes .entry))) ⌝ }
+{
+    let t = tally::tally(bytes, Tally::Limited, n, m);
+    let cost_columns = tally::tally(bytes, Tally::Piecewise, n + m, k);
+    SocWrLayout {
+        n,
+        m,
+        k,
+        s,
+        t,
+        cost_columns,
+    }
+}
 
 pub fn n_eq(l: SocWrLayout) -> u32
     requires { ⌜ InRange l ⌝ }

@@ -51,6 +51,13 @@ pub enum RowName {
     Thermal(usize, usize),
 }
 
+// What is counted over the records of a kind: limited branches, piecewise generators, or segments of generators.
+pub enum Tally {
+    Limited,
+    Piecewise,
+    Segments,
+}
+
 // How many buses, branches, generators, segments, limited branches (T) and cost columns there are.
 pub struct SocWrLayout {
     pub n: usize,

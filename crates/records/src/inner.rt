@@ -4,7 +4,7 @@ ghost use Prim.Native.Nat.{_+_, _*_, _≤_, _<_};
 ghost use lib.ListN.{length, getD};
 ghost use lib.Ieee.{ofBits, binary64};
 ghost use Rattle.records.specs.Bytes.{le16, le32, le64};
-ghost use Rattle.records.specs.Fields.{kindOf, flagsOf, countOf, idOf, firstOf, secondOf, bitsOf, floatOf, bit0, bit1, voltageBoundOf, gsOf, bsOf, pdOf, qdOf, vmMinOf, vmMaxOf, limitedOf, angleBoundOf, fromOf, toOf, gOf, bOf, gFrOf, bFrOf, gToOf, bToOf, tapOf, cosShiftOf, sinShiftOf, angminOf, angmaxOf, tanAngminOf, tanAngmaxOf, rateAOf, capabilityOf, piecewiseOf, genBusOf, pminOf, pmaxOf, qminOf, qmaxOf, cqOf, clOf, ccOf, slopeOf, interceptOf};
+ghost use Rattle.records.specs.Fields.{kindOf, flagsOf, countOf, idOf, firstOf, secondOf, bitsOf, floatOf, bit0, bit1, voltageBoundOf, gsOf, bsOf, pdOf, qdOf, vmMinOf, vmMaxOf, limitedOf, angleBoundOf, fromOf, toOf, gOf, bOf, gFrOf, bFrOf, gToOf, bToOf, tapOf, cosShiftOf, sinShiftOf, angminOf, angmaxOf, tanAngminOf, tanAngmaxOf, rateAOf, capabilityOf, piecewiseOf, segmentsOf, genBusOf, pminOf, pmaxOf, qminOf, qmaxOf, cqOf, clOf, ccOf, slopeOf, interceptOf};
 
 fn wide(x: u8) -> u16
     ensures { λ r. ⌜ r ≡ x ⌝ }
@@ -387,4 +387,16 @@ pub fn intercept(b: &[u8], r: usize) -> f64
     ensures { λ x. ⌜ x ≡ interceptOf (now (b .entry)) r ⌝ }
 {
     float(b, r, 1)
+}
+
+// The segments of a generator's cost.
+pub fn segments(b: &[u8], r: usize) -> usize
+    requires { ⌜ 128 * r + 128 ≤ length (now b) ⌝ }
+    ensures { λ x. ⌜ x ≡ segmentsOf (now (b .entry)) r ⌝ }
+    ensures { λ x. ⌜ x < 65536 ⌝ }
+{
+    if piecewise(b, r) {
+        return count(b, r);
+    }
+    0
 }

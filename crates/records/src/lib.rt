@@ -156,7 +156,8 @@ fn count_sum(b: &[u8], g: usize, k: usize) -> usize
     sum
 }
 
-fn count_cause(n: usize, m: usize, k: usize, s: usize) -> Checked
+// 1: the first of n, m, k, S that is too large.
+pub fn count_cause(n: usize, m: usize, k: usize, s: usize) -> Checked
     ensures { λ x. ⌜ x ≡ countCause n m k s ⌝ }
 {
     or_else(

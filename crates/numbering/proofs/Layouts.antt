@@ -1,0 +1,79 @@
+-- Which layouts are in range, and what the layout of a network gives of its numbering. Assumes nothing.
+use Prim.Native.Nat.{ℕ, _+_}
+use mathlib.Core.Path.{_≡_, refl}
+use mathlib.Core.List.{List}
+use native.Mathlib.Omega.{arith}
+use borrow.Author.Tests.{leb-true}
+use lib.Ieee.{Float}
+use Rattle.lists.specs.UpTo.{sum}
+use Rattle.lists.proofs.Sums.{count-le}
+use Rattle.refusals.specs.declared.Checked.the-variants.{Accepted}
+use Rattle.refusals.proofs.Laws.{orElse-accepted, test-held}
+use Rattle.records.specs.AcNetwork.{AcNetwork}
+use Rattle.records.specs.Network.{networkOf}
+use Rattle.records.specs.Network as Network
+use Rattle.records.proofs.Causes.{counts-in-range}
+use Rattle.numbering.specs.Blocks.{before, total}
+use Rattle.numbering.specs.Numbering.{limits, curves, nvar, ncon, rowBlocks, rowNumber}
+use Rattle.numbering.specs.Layout.{layoutOf, layoutCause, InRange, layoutColumns, layoutRows, layoutRow}
+use Rattle.numbering.specs.Tally.{pointsOf, tallyOf}
+use Rattle.numbering.specs.declared.SocWrLayout.{SocWrLayout}
+use Rattle.numbering.specs.declared.Tally.the-variants.{Limited, Piecewise, Segments}
+use Rattle.numbering.specs.declared.RowName.the-variants.{Jabr}
+
+pub in-range : (l : SocWrLayout) → layoutCause l ≡ Accepted → InRange l
+unfolding layoutCause
+in-range l h =
+    let a = orElse-accepted _ _ h in
+    let b = orElse-accepted _ _ (a .1) in
+    let c = counts-in-range _ _ _ _ (a .0) in
+    record {
+      n-range = c .0;
+      m-range = c .1;
+      k-range = c .2;
+      s-range = c .3;
+      t-range = leb-true _ _ (test-held _ _ (b .0));
+      c-range = leb-true _ _ (test-held _ _ (b .1));
+    }
+
+module _ (n m k s : ℕ) (b : List ℕ) where
+  abbrev G : AcNetwork Float
+  G = networkOf n m k s b
+
+  pub accepted-range : Network.Accepted n m k s b → InRange (layoutOf G)
+  accepted-range a =
+      record {
+        n-range = a .few-buses;
+        m-range = a .few-branches;
+        k-range = a .few-generators;
+        s-range = a .few-segments;
+        t-range = count-le m (G .limited);
+        c-range = count-le k (G .piecewise);
+      }
+
+  -- the tallies of all records of a kind
+  pub limits-tally : tallyOf Limited b n m ≡ limits G
+  unfolding tallyOf pointsOf
+  limits-tally = refl
+
+  pub curves-tally : tallyOf Piecewise b (n + m) k ≡ curves G
+  unfolding tallyOf pointsOf
+  curves-tally = refl
+
+  pub segments-tally : (g : ℕ) → tallyOf Segments b (n + m) g ≡ sum g (G .segments)
+  unfolding tallyOf pointsOf
+  segments-tally g = refl
+
+-- the sizes, and the rows of the blocks past the costs, that need the segments to add up
+module _ {A : Type 0} (G : AcNetwork A) where
+  pub nvar-layout : total (layoutColumns (layoutOf G)) ≡ nvar G
+  nvar-layout = omega arith
+
+  pub ncon-layout : sum (G .k) (G .segments) ≡ G .s → total (layoutRows (layoutOf G)) ≡ ncon G
+  ncon-layout h = omega arith
+
+  pub jabr-layout : sum (G .k) (G .segments) ≡ G .s → (e q : ℕ) → layoutRow (layoutOf G) (Jabr e q) ≡ rowNumber G (Jabr e q)
+  jabr-layout h e q = omega arith
+
+  pub thermal-layout : sum (G .k) (G .segments) ≡ G .s → before (layoutRows (layoutOf G)) 16 ≡ before (rowBlocks G) 16
+  thermal-layout h = omega arith
