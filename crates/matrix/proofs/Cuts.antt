@@ -169,7 +169,7 @@ module _ (G : AcNetwork Float) (sound : Sound G) (bus-below : (g : ℕ) → g < 
         each-at-when (G .bounded) (λ j. at G (Wlb j) (constant64 minusOne)) i (G .n) l,
         cones (W i),
       )
-      (simp (when-append, append-assoc, append-nil)))
+      (simp (when-append, append-assoc)))
 
   col-wr : (e : ℕ) → e < G .m → column G (Wr e) ≡ wrCells G e
   unfolding column shaped ohmTerms wrCells ohmCells
@@ -185,7 +185,7 @@ module _ (G : AcNetwork Float) (sound : Sound G) (bus-below : (g : ℕ) → g < 
         middle (Wr e) (λ i. refl) (λ j. when (eqb j e) (at G (Jabr j 1) (constant64 minusOne))),
         each-at (λ e. at G (Jabr e 1) (constant64 minusOne)) e (G .m) l,
       )
-      (simp (when-append, append-assoc, append-nil, each-nil)))
+      (simp (when-append, append-assoc)))
 
   col-wi : (e : ℕ) → e < G .m → column G (Wi e) ≡ wiCells G e
   unfolding column shaped ohmTerms wiCells ohmCells
@@ -201,7 +201,7 @@ module _ (G : AcNetwork Float) (sound : Sound G) (bus-below : (g : ℕ) → g < 
         middle (Wi e) (λ i. refl) (λ j. when (eqb j e) (at G (Jabr j 2) (constant64 minusOne))),
         each-at (λ e. at G (Jabr e 2) (constant64 minusOne)) e (G .m) l,
       )
-      (simp (when-append, append-assoc, append-nil, each-nil)))
+      (simp (when-append, append-assoc)))
 
   col-pf : (e : ℕ) → e < G .m → column G (Pf e) ≡ flowCells G pf e
   unfolding column shaped ohmTerms flowCells
