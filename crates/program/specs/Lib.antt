@@ -1,0 +1,4 @@
+pub mod Ready
+pub mod Answered
+pub mod Sides
+pub mod Filled
