@@ -2,3 +2,6 @@ pub mod Fills
 pub mod LastBlock
 pub mod Ratings
 pub mod RightSide
+pub mod Ends
+pub mod Quad
+pub mod Answers

@@ -7,7 +7,7 @@ use native.Mathlib.Nat.{mul-add, mul-one}
 use native.Mathlib.Omega.{arith}
 use lib.ListN.{length, length-append}
 use lib.Ieee.{Float, binary64, add, neg}
-use Rattle.lists.specs.UpTo.{upTo, each, listed, when, bit, sum}
+use Rattle.lists.specs.UpTo.{upTo, each, listed, when, bit, sum, count}
 use Rattle.lists.proofs.Each.{each-ext, each-split}
 use Rattle.records.specs.Fields.{interceptOf}
 use Rattle.records.specs.Network.{segmentRecord}
@@ -23,7 +23,7 @@ use Rattle.matrix.specs.Lists.{rightSide}
 use Rattle.matrix.proofs.EveryPoint.{right-side, linear-side}
 use Rattle.program.proofs.Fills.{listed-length}
 use Rattle.program.specs.Ready.{Ready, netOf}
-use Rattle.program.specs.Sides.{sideAt, equalitySides, voltageSides, generatorSides, ratingSides, ratingsAt, otherSides}
+use Rattle.program.specs.Sides.{sideAt, equalitySides, voltageSides, generatorSides, ratingSides, ratingsAt, otherSides, linearCost}
 
 sum-same : (w n : ℕ) → sum n (λ i. w) ≡ w * n
 unfolding upTo
@@ -50,7 +50,49 @@ module _ {A : Type 0} where
       → (p ++ q ++ a ++ b ++ c ++ d) ++ (u ++ v ++ f ++ g ++ h ++ i ++ r ++ s ++ t) ++ (j ++ k) ≡ (p ++ q ++ z) ++ (u ++ v) ++ (f ++ g ++ h ++ i) ++ (r ++ s ++ t ++ j ++ k)
   regroup p q a b c d z u v f g h i r s t j k e = rw (← e) (simp append-assoc)
 
+bit-when : {A : Type 0} (p : Bool) (x : A) → each (bit p) (λ t. x ∷ []) ≡ when p (x ∷ [])
+unfolding upTo
+bit-when true x = refl
+bit-when false x = refl
+
+-- one for each that passes
+ones : {A : Type 0} (n : ℕ) (p : ℕ → Bool) (x : A) → each n (λ i. when (p i) (x ∷ [])) ≡ listed (count n p) (λ i. x)
+ones n p x = each-ext _ _ n (λ i l. sym (bit-when (p i) x)) ∙ sym (each-sums (λ i. bit (p i)) (λ i. x ∷ []) n)
+
+eight-blocks : {A : Type 0} (k n m : ℕ) (x : A) (a c : List A)
+    → a ++ listed k (λ e. x) ++ listed n (λ e. x) ++ listed m (λ e. x) ++ listed m (λ e. x) ++ listed m (λ e. x) ++ listed m (λ e. x) ++ listed m (λ e. x) ++ listed m (λ e. x) ++ c
+    ≡ a ++ listed (k + n + 6 * m) (λ e. x) ++ c
+eight-blocks k n m x a c =
+    let f : ℕ → List _ = λ i. x ∷ [] in
+    let e : k + n + 6 * m ≡ k + n + m + m + m + m + m + m = omega arith in
+    rw (
+      e,
+      each-split f (k + n + m + m + m + m + m) m,
+      each-split f (k + n + m + m + m + m) m,
+      each-split f (k + n + m + m + m) m,
+      each-split f (k + n + m + m) m,
+      each-split f (k + n + m) m,
+      each-split f (k + n) m,
+      each-split f k n,
+    )
+    (simp append-assoc)
+
 module _ (l : SocWrLayout) (bytes : List ℕ) (ready : Ready l bytes) where
+  -- q
+  pub columns-length : total (layoutColumns l) ≡ nvar (netOf l bytes)
+  columns-length = omega (arith, ready .curves-are)
+
+  pub linear-length : length (linear (netOf l bytes)) ≡ total (layoutColumns l)
+  unfolding linear
+  linear-length = listed-length _ _ ∙ sym columns-length
+
+  pub linear-parts : linear (netOf l bytes)
+      ≡ listed (l .k) (linearCost l bytes) ++ listed (l .k + l .n + 6 * l .m) (λ c. zero64) ++ listed (l .«cost_columns») (λ c. add binary64 zero64 (rounded .one))
+  unfolding linearCost
+  linear-parts =
+      linear-side (netOf l bytes)
+      ∙ rw (ones (l .k) (netOf l bytes .piecewise) (add binary64 zero64 (rounded .one)), ← ready .curves-are)
+      (eight-blocks (l .k) (l .n) (l .m) zero64 (listed (l .k) (linearCost l bytes)) (listed (l .«cost_columns») (λ c. add binary64 zero64 (rounded .one))))
   intercepts : each (l .k) (λ g. each (netOf l bytes .segments g) (λ t. b (netOf l bytes) (Segment g t) ∷ [])) ≡ listed (l .s) (λ r. neg (interceptOf bytes (l .n + l .m + l .k + r)))
   unfolding b segmentRecord
   intercepts =

@@ -2,3 +2,5 @@ pub mod Ready
 pub mod Answered
 pub mod Sides
 pub mod Filled
+pub mod Columns
+pub mod Quadratic

@@ -57,3 +57,7 @@ otherSides l bytes =
     ++ listed (l .s) (λ r. neg (interceptOf bytes (l .n + l .m + l .k + r)))
     ++ listed (4 * l .m) (λ e. zero64)
     ++ each (l .m) (ratingsAt l bytes)
+
+-- q at pg g: cl is added to 0
+unfoldable pub linearCost : SocWrLayout → List ℕ → ℕ → Float
+linearCost l bytes g = add binary64 zero64 (netOf l bytes .cl g)

@@ -16,7 +16,7 @@ ghost use Rattle.rows.specs.Program.{linear};
 ghost use Rattle.matrix.specs.Lists.{rightSide};
 ghost use Rattle.program.specs.Ready.{Ready, netOf};
 ghost use Rattle.program.specs.Filled.{Filled};
-ghost use Rattle.program.specs.Sides.{BusBlock, GenBlock, AngleBlock, sideAt, equalitySides, voltageSides, generatorSides, ratingSides, ratingsAt, otherSides};
+ghost use Rattle.program.specs.Sides.{BusBlock, GenBlock, AngleBlock, sideAt, equalitySides, voltageSides, generatorSides, ratingSides, ratingsAt, otherSides, linearCost};
 
 // The value where a bound is active, else 1.
 fn active(on: bool, v: f64) -> f64
@@ -261,4 +261,31 @@ pub fn fill_b(out: &mut [f64], l: SocWrLayout, bytes: &[u8])
     fill_voltages(out, voltage, l, bytes);
     fill_capabilities(out, capability, l, bytes);
     fill_others(out, angle, l, bytes);
+}
+
+// 0 with the linear cost added, at each pg.
+fn fill_costs(out: &mut [f64], l: SocWrLayout, bytes: &[u8])
+    requires { ⌜ Ready l (now bytes) ⌝ }
+    requires { ⌜ l .k ≤ length (now out) ⌝ }
+    ensures { λ _. ⌜ Filled (listed (l .k) (linearCost l (now (bytes .entry)))) (now (out .entry)) 0 (now (out .exit)) ⌝ }
+{
+    let k = l.k;
+    let mut g = 0;
+    while g < k {
+        out[0 + g] = 0.0 + records::inner::cl(bytes, l.n + l.m + g);
+        g += 1;
+    }
+}
+
+// All of q.
+pub fn fill_q(out: &mut [f64], l: SocWrLayout, bytes: &[u8])
+    requires { ⌜ Ready l (now bytes) ⌝ }
+    requires { ⌜ total (layoutColumns l) ≤ length (now out) ⌝ }
+    ensures { λ _. ⌜ now (out .exit) ≡ overlay (linear (netOf l (now (bytes .entry)))) (now (out .entry)) ⌝ }
+{
+    let zeros = l.k + l.n + 6 * l.m;
+    let curves = l.k + zeros;
+    fill_costs(out, l, bytes);
+    fill_all(out, l.k, zeros, 0.0);
+    fill_all(out, curves, l.cost_columns, 0.0 + 1.0);
 }
