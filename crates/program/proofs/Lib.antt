@@ -5,3 +5,4 @@ pub mod RightSide
 pub mod Ends
 pub mod Quad
 pub mod Answers
+pub mod Dealing

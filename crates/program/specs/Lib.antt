@@ -4,3 +4,4 @@ pub mod Sides
 pub mod Filled
 pub mod Columns
 pub mod Quadratic
+pub mod Deal
