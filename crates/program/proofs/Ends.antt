@@ -17,12 +17,12 @@ use Rattle.program.specs.Filled.{Filled}
 use Rattle.program.specs.Columns.{endsFrom, Columns, Whole}
 use Rattle.program.proofs.Fills.{filled-then, filled-empty, kept-length, listed-length}
 
-ends-length : (p : ℕ) (cs : List (List Cell)) → length (endsFrom p cs) ≡ length cs
+pub ends-length : (p : ℕ) (cs : List (List Cell)) → length (endsFrom p cs) ≡ length cs
 unfolding endsFrom
 ends-length p [] = refl
 ends-length p (c ∷ cs) = omega (arith, ends-length (p + length c) cs)
 
-ends-append : (p : ℕ) (xs ys : List (List Cell)) → endsFrom p (xs ++ ys) ≡ endsFrom p xs ++ endsFrom (p + length (joined xs)) ys
+pub ends-append : (p : ℕ) (xs ys : List (List Cell)) → endsFrom p (xs ++ ys) ≡ endsFrom p xs ++ endsFrom (p + length (joined xs)) ys
 unfolding endsFrom joined
 ends-append p [] ys = rw add-zero
 ends-append p (x ∷ xs) ys =

@@ -6,3 +6,5 @@ pub mod Ends
 pub mod Quad
 pub mod Answers
 pub mod Dealing
+pub mod BusColumns
+pub mod Counts

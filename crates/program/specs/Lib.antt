@@ -5,3 +5,6 @@ pub mod Filled
 pub mod Columns
 pub mod Quadratic
 pub mod Deal
+pub mod Series
+pub mod Buses
+pub mod Cursors

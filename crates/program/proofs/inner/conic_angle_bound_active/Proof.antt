@@ -9,5 +9,4 @@ unfolding angledOf
 returns c = cc
 
 pub conic-angle-bound-active-spec : {M : Type 1} → statement M
-unfolding angledOf
 conic-angle-bound-active-spec = tie.close (tie.spec (λ c κs. search needs) (λ c κs. search needs) (λ c κs. search needs) returns)
