@@ -14,16 +14,16 @@ use Rattle.numbering.specs.declared.ColumnName.{ColumnName}
 use Rattle.numbering.specs.declared.ColumnName.the-variants.{Pg, Qg, W, Pf, Pt, Qf, Qt}
 use Rattle.numbering.specs.declared.RowName.the-variants.{Pbal, Qbal, Jabr}
 
-written-append : (t : Float) (xs ys : List (Cell Float)) → written t (xs ++ ys) ≡ written t xs ++ written t ys
+pub written-append : (t : Float) (xs ys : List (Cell Float)) → written t (xs ++ ys) ≡ written t xs ++ written t ys
 written-append t [] ys = refl
 written-append t (x ∷ xs) ys = rw (written-append t xs ys) (sym (append-assoc (writtenCell t (x .column) (x .value)) (written t xs) (written t ys)))
 
-written-each : (t : Float) (n : ℕ) (f : ℕ → List (Cell Float)) → written t (each n f) ≡ each n (λ j. written t (f j))
+pub written-each : (t : Float) (n : ℕ) (f : ℕ → List (Cell Float)) → written t (each n f) ≡ each n (λ j. written t (f j))
 unfolding upTo
 written-each t zero f = refl
 written-each t (suc n) f = written-append t (each n f) (f n) ∙ rw (written-each t n f)
 
-written-when : (t : Float) (b : Bool) (xs : List (Cell Float)) → written t (when b xs) ≡ when b (written t xs)
+pub written-when : (t : Float) (b : Bool) (xs : List (Cell Float)) → written t (when b xs) ≡ when b (written t xs)
 written-when t true xs = refl
 written-when t false xs = refl
 

@@ -1,0 +1,4 @@
+pub mod EveryPoint
+pub mod Shaped
+pub mod Cuts
+pub mod Same

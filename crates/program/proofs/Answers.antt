@@ -1,0 +1,132 @@
+-- What the entries answer. Assumes nothing.
+use Prim.Native.Nat.{ℕ, _+_, _≤_, _<_}
+use mathlib.Core.Path.{_≡_, refl, sym, ap, subst, _∙_}
+use mathlib.Core.Bool.{Bool, true, false}
+use mathlib.Core.List.{List, map}
+use native.Mathlib.Omega.{arith}
+use borrow.Author.Tests.{le-leb, lt-leb}
+use lib.Dec.{leb, T}
+use lib.ListN.{length}
+use lib.Ieee.{Float}
+use Rattle.lists.specs.UpTo.{overlay}
+use Rattle.lists.specs.Entries.{Cell, cellRow, cellVal}
+use Rattle.lists.specs.Compressed.{joined, startsFrom}
+use Rattle.refusals.specs.Refusals.{_orElse_, isRefused, refuseUnless, writtenIf, leftIn}
+use Rattle.refusals.specs.declared.Refusal.the-variants.{OutputTooShort}
+use Rattle.refusals.specs.declared.Checked.{Checked}
+use Rattle.refusals.specs.declared.Checked.the-variants.{Accepted, Refused}
+use Rattle.refusals.specs.declared.Written.{Written}
+use Rattle.refusals.specs.declared.Written.the-variants as Written
+use Rattle.refusals.proofs.Laws.{orElse-refused, accepted-first, left-written, left-alone, left-refused, count-written, count-refused, held, failed}
+use Rattle.records.specs.Network.{networkOf}
+use Rattle.records.specs.Network as Network
+use Rattle.records.specs.AcNetwork.{AcNetwork}
+use Rattle.numbering.specs.Layout.{layoutOf}
+use Rattle.numbering.proofs.Layouts.{accepted-range}
+use Rattle.numbering.specs.declared.SocWrLayout.{SocWrLayout}
+use Rattle.program.specs.Ready.{Ready, netOf}
+use Rattle.program.specs.Answered.{roomCause, floatsCheck, FloatsWritten, columnsCheck, ColumnsWritten}
+use Rattle.program.specs.Columns.{Whole}
+use Rattle.program.proofs.Ends.{whole-count, whole-starts, whole-rows, whole-vals}
+
+-- ---- accepted records
+
+module _ (n m k s : ℕ) (b : List ℕ) {l : SocWrLayout} where
+  pub ready : Network.Accepted n m k s b → l ≡ layoutOf (networkOf n m k s b) → Ready l b
+  ready a e = subst (λ (x : SocWrLayout). Ready x b) (sym e) (record { accepted = a; range = accepted-range n m k s b a; limits-are = refl; curves-are = refl })
+
+  pub net-is : l ≡ layoutOf (networkOf n m k s b) → netOf l b ≡ networkOf n m k s b
+  net-is e = ap (λ (x : SocWrLayout). netOf x b) e
+
+-- ---- rooms
+
+room-held : {need have : ℕ} → need ≤ have → roomCause need have ≡ Accepted
+unfolding roomCause
+room-held {need} {have} h = held _ _ (le-leb need have h)
+
+room-short : {need have : ℕ} → have < need → roomCause need have ≡ Refused (OutputTooShort need)
+unfolding roomCause
+room-short {need} {have} h = failed _ _ (lt-leb need have h)
+
+written-refused : (c : Checked) (p q : ℕ) → isRefused c ≡ true → writtenIf c p ≡ writtenIf c q
+unfolding writtenIf isRefused
+written-refused Accepted p q h = absurd (subst T (sym h) tt)
+written-refused (Refused cause) p q h = refl
+
+-- ---- a list of floats
+
+module _ {check : Checked} {xs ys₀ : List Float} where
+  pub floats-refused : {c : Checked} {r : Written} → c ≡ check → isRefused c ≡ true → r ≡ writtenIf c 0 → FloatsWritten check xs ys₀ ys₀ r
+  unfolding floatsCheck
+  floats-refused {c} e h q =
+      let w : isRefused check ≡ true = rw (← e) h in
+      let o = orElse-refused check (roomCause (length xs) (length ys₀)) w in
+      record { answer = q ∙ rw (o, ← e) (written-refused c 0 (length xs) h); left = sym (rw o (left-refused check xs ys₀ w)) }
+
+  pub floats-short : {need : ℕ} → check ≡ Accepted → need ≡ length xs → length ys₀ < need → FloatsWritten check xs ys₀ ys₀ (Written.Refused (OutputTooShort need))
+  unfolding floatsCheck
+  floats-short {need} e p h =
+      let l : length ys₀ < length xs = omega arith in
+      let o : check orElse roomCause (length xs) (length ys₀) ≡ Refused (OutputTooShort (length xs)) = rw (e, accepted-first) (room-short l) in
+      record { answer = rw p (sym (count-refused (length xs) o)); left = sym (left-alone xs ys₀ o) }
+
+  pub floats-written : {need : ℕ} {ys : List Float} → check ≡ Accepted → need ≡ length xs → length xs ≤ length ys₀ → ys ≡ overlay xs ys₀ → FloatsWritten check xs ys₀ ys (Written.Count need)
+  unfolding floatsCheck
+  floats-written {need} e p h q =
+      let o : check orElse roomCause (length xs) (length ys₀) ≡ Accepted = rw (e, accepted-first) (room-held h) in
+      record { answer = rw p (sym (count-written (length xs) o)); left = q ∙ sym (left-written xs ys₀ o) }
+
+-- ---- compressed columns
+
+module _ {check : Checked} {cs : List (List Cell)} {ss₀ rs₀ : List ℕ} {vs₀ : List Float} where
+  pub columns-refused : {c : Checked} {r : Written} → c ≡ check → isRefused c ≡ true → r ≡ writtenIf c 0 → ColumnsWritten check cs ss₀ rs₀ vs₀ ss₀ rs₀ vs₀ r
+  unfolding columnsCheck
+  columns-refused {c} e h q =
+      let w : isRefused check ≡ true = rw (← e) h in
+      let o : columnsCheck check cs ss₀ rs₀ vs₀ ≡ check = orElse-refused check _ w in
+      record {
+        answer = q ∙ rw (o, ← e) (written-refused c 0 (length (joined cs)) h);
+        starts = sym (rw o (left-refused check _ ss₀ w));
+        rows = sym (rw o (left-refused check _ rs₀ w));
+        values = sym (rw o (left-refused check _ vs₀ w));
+      }
+
+  -- refused by the first list that is too short
+  columns-cause : {need : ℕ} → columnsCheck check cs ss₀ rs₀ vs₀ ≡ Refused (OutputTooShort need) → ColumnsWritten check cs ss₀ rs₀ vs₀ ss₀ rs₀ vs₀ (Written.Refused (OutputTooShort need))
+  columns-cause o =
+      record { answer = sym (count-refused _ o); starts = sym (left-alone _ ss₀ o); rows = sym (left-alone _ rs₀ o); values = sym (left-alone _ vs₀ o) }
+
+  pub short-starts : {need : ℕ} → check ≡ Accepted → need ≡ length (startsFrom 0 cs) → length ss₀ < need → ColumnsWritten check cs ss₀ rs₀ vs₀ ss₀ rs₀ vs₀ (Written.Refused (OutputTooShort need))
+  unfolding columnsCheck _orElse_
+  short-starts {need} e p h = columns-cause (rw e (rw (← p, room-short h)))
+
+  pub short-rows : {need : ℕ} → check ≡ Accepted → length (startsFrom 0 cs) ≤ length ss₀ → need ≡ length (joined cs) → length rs₀ < need → ColumnsWritten check cs ss₀ rs₀ vs₀ ss₀ rs₀ vs₀ (Written.Refused (OutputTooShort need))
+  unfolding columnsCheck _orElse_
+  short-rows {need} e s p h = columns-cause (rw e (rw (room-held s, ← p, room-short h)))
+
+  pub short-vals : {need : ℕ} → check ≡ Accepted → length (startsFrom 0 cs) ≤ length ss₀ → need ≡ length (joined cs) → need ≤ length rs₀ → length vs₀ < need → ColumnsWritten check cs ss₀ rs₀ vs₀ ss₀ rs₀ vs₀ (Written.Refused (OutputTooShort need))
+  unfolding columnsCheck _orElse_
+  short-vals {need} e s p q h = columns-cause (rw e (rw (room-held s, ← p, room-held q, room-short h)))
+
+  pub columns-written : {need : ℕ} {ss rs : List ℕ} {vs : List Float} → check ≡ Accepted → length (startsFrom 0 cs) ≤ length ss₀ → length (joined cs) ≤ length rs₀ → length (joined cs) ≤ length vs₀
+      → Whole cs ss₀ rs₀ vs₀ ss rs vs need → ColumnsWritten check cs ss₀ rs₀ vs₀ ss rs vs (Written.Count need)
+  unfolding columnsCheck _orElse_
+  columns-written e s p q w =
+      let o : columnsCheck check cs ss₀ rs₀ vs₀ ≡ Accepted = rw e (rw (room-held s, room-held p, room-held q)) in
+      record {
+        answer = ap Written.Count (whole-count w) ∙ sym (count-written _ o);
+        starts = whole-starts w s ∙ sym (left-written _ ss₀ o);
+        rows = whole-rows w p ∙ sym (left-written _ rs₀ o);
+        values = whole-vals w q ∙ sym (left-written _ vs₀ o);
+      }
+
+-- ---- of equal networks
+
+pub floats-of : (f : AcNetwork Float → List Float) {G H : AcNetwork Float} {check : Checked} {ys₀ ys : List Float} {r : Written}
+    → G ≡ H → FloatsWritten check (f G) ys₀ ys r → FloatsWritten check (f H) ys₀ ys r
+floats-of f {check = check} {ys₀ = ys₀} {ys = ys} {r = r} e h = subst (λ (G : AcNetwork Float). FloatsWritten check (f G) ys₀ ys r) e h
+
+pub columns-of : (f : AcNetwork Float → List (List Cell)) {G H : AcNetwork Float} {check : Checked} {ss₀ rs₀ ss rs : List ℕ} {vs₀ vs : List Float} {r : Written}
+    → G ≡ H → ColumnsWritten check (f G) ss₀ rs₀ vs₀ ss rs vs r → ColumnsWritten check (f H) ss₀ rs₀ vs₀ ss rs vs r
+columns-of f {check = check} {ss₀ = ss₀} {rs₀ = rs₀} {ss = ss} {rs = rs} {vs₀ = vs₀} {vs = vs} {r = r} e h =
+    subst (λ (G : AcNetwork Float). ColumnsWritten check (f G) ss₀ rs₀ vs₀ ss rs vs r) e h

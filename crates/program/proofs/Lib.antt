@@ -1,0 +1,10 @@
+pub mod Fills
+pub mod LastBlock
+pub mod Ratings
+pub mod RightSide
+pub mod Ends
+pub mod Quad
+pub mod Answers
+pub mod Dealing
+pub mod BusColumns
+pub mod Counts

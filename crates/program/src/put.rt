@@ -1,0 +1,38 @@
+// Cells written to the lists of rows and values; where a list has no room, that list stays.
+use lists::inner::store_f64;
+use lists::inner::store_u32;
+ghost use Prim.Native.Nat.{_+_, _≤_, _<_, _^_};
+ghost use Rattle.lists.specs.UpTo.{when};
+ghost use Rattle.lists.specs.Compressed.{cellOut, WroteCells};
+ghost use Rattle.matrix.specs.Columns.{oneCell, nonzeroCell};
+
+pub fn put(rows: &mut [u32], vals: &mut [f64], at: usize, r: u32, v: f64) -> usize
+    requires { ⌜ at + 1 < 2 ^ 64 ⌝ }
+    ensures { λ x. ⌜ WroteCells (oneCell r v) (cellOut (now (rows .entry)) (now (vals .entry)) at) (cellOut (now (rows .exit)) (now (vals .exit)) x) ⌝ }
+    ensures { λ x. ⌜ x ≤ at + 1 ⌝ }
+{
+    store_u32(rows, at, r);
+    store_f64(vals, at, v);
+    at + 1
+}
+
+// A cell, where the test holds.
+pub fn put_if(rows: &mut [u32], vals: &mut [f64], at: usize, hit: bool, r: u32, v: f64) -> usize
+    requires { ⌜ at + 1 < 2 ^ 64 ⌝ }
+    ensures { λ x. ⌜ WroteCells (when hit (oneCell r v)) (cellOut (now (rows .entry)) (now (vals .entry)) at) (cellOut (now (rows .exit)) (now (vals .exit)) x) ⌝ }
+    ensures { λ x. ⌜ x ≤ at + 1 ⌝ }
+{
+    if hit {
+        return put(rows, vals, at, r, v);
+    }
+    at
+}
+
+// The Rust's `a` and `quad`: a cell, unless its value equals zero.
+pub fn put_nonzero(rows: &mut [u32], vals: &mut [f64], at: usize, r: u32, v: f64) -> usize
+    requires { ⌜ at + 1 < 2 ^ 64 ⌝ }
+    ensures { λ x. ⌜ WroteCells (nonzeroCell r v) (cellOut (now (rows .entry)) (now (vals .entry)) at) (cellOut (now (rows .exit)) (now (vals .exit)) x) ⌝ }
+    ensures { λ x. ⌜ x ≤ at + 1 ⌝ }
+{
+    put_if(rows, vals, at, v != 0.0, r, v)
+}
