@@ -8,8 +8,8 @@ ghost use Rattle.refusals.specs.Refusals.{checkedNumber, checkedValue, writtenN
 ghost use Rattle.kernel.specs.Answers.{CheckedAnswer, WrittenAnswer};
 
 pub mod numbers;
-pub mod sens;
 pub mod readings;
+pub mod sens;
 
 // Number 0 and the answer, or the number of the cause and the value returned with it.
 #[repr(C)]

@@ -1,5 +1,6 @@
+-- `input::first_row` meets its contract. Assumes nothing.
 use borrow.Author.Tests.{le-leb, lt-leb}
-use mathlib.Core.Path.{_≡_, sym, ap, _∙_}
+use mathlib.Core.Path.{sym, ap, _∙_}
 use mathlib.Core.List.{List}
 use native.Mathlib.Omega.{arith}
 use lib.ListN.{length}
@@ -10,65 +11,23 @@ use Rattle.numbering.proofs.Entered.{stopped-at, gone-on, answered, start-is, r
 use borrow.Author.Needs.{needs}
 use Rattle.input.proofs.first_row.Statement.{statement}
 use Rattle.input.proofs.first_row.Tie as tie
-use Rattle.input.proofs.first_row.Reads as reads
-use Rattle.input.proofs.first_row.Lts as lts
-use Rattle.numbering.proofs.SocWrLayout.cause.Reads as cause-reads
-use Rattle.numbering.proofs.inner.blocks.row_sizes.Reads as row-sizes-reads
-use Rattle.numbering.proofs.inner.blocks.start_of.Reads as start-of-reads
-use Rattle.numbering.proofs.layout.refused.Reads as refused-reads
-use Rattle.refusals.proofs.is_refused.Reads as is-refused-reads
 
--- src/lib.rt:68:9
-cause-requires : tie.Need-cause-requires
-cause-requires c κs = search needs
-
--- src/lib.rt:69:8
-is-refused-requires : tie.Need-is-refused-requires
-is-refused-requires c κs = search needs
-
--- src/lib.rt:70:9
-refused-requires : tie.Need-refused-requires
-refused-requires c κs = search needs
-
--- src/lib.rt:70:9
 returns : tie.Need-returns
 returns c = stopped-at _ (c .refused .ensures) (c .before .before .before .cause .ensures) (sym (c .before .before .is-refused .ensures) ∙ c .before .if1 .taken)
 
--- src/lib.rt:73:9
 returns-2 : tie.Need-returns-2
 returns-2 c = simp (lt-leb _ _ (c .if2 .taken)) (answered _ (gone-on (c .before .before .before .cause .ensures) (sym (c .before .before .is-refused .ensures) ∙ c .before .if1 .left)))
 
--- src/lib.rt:75:17
 row-sizes-requires : tie.Need-row-sizes-requires
 row-sizes-requires c κs = in-range _ (gone-on (c .before .before .before .cause .ensures) (sym (c .before .before .is-refused .ensures) ∙ c .before .if1 .left))
 
--- src/lib.rt:76:37
-slice-aggregate-start-of : tie.Need-slice-aggregate-start-of
-slice-aggregate-start-of c = search needs
-
--- src/lib.rt:76:20
 start-of-requires : tie.Need-start-of-requires
 start-of-requires c κs = let e = c .before .row-sizes .ensures in ((omega (arith, ap length e), omega (arith, ap length e)), rw e (row-most _ (in-range _ (gone-on (c .before .before .before .before .before .cause .ensures) (sym (c .before .before .before .before .is-refused .ensures) ∙ c .before .before .before .if1 .left)))))
 
--- src/lib.rt:76:20
-cast-t13 : tie.Need-cast-t13
-cast-t13 c = search needs
-
--- src/lib.rt:65:1
 returns-3 : tie.Need-returns-3
 returns-3 c = let a = c .before .before .before .before .before .before .before .args in let e = c .before .before .row-sizes .ensures in simp (le-leb _ _ (c .before .before .before .if2 .left)) (ap Number (c .start-of .ensures .0 ∙ ap (λ (ws : List _). startIn ws (a .block)) e ∙ start-is (layoutRows (a .l)) (rowSizes (a .l)) 17 (row-sizes (a .l)) (a .block) (omega arith)) ∙ answered _ (gone-on (c .before .before .before .before .before .before .cause .ensures) (sym (c .before .before .before .before .before .is-refused .ensures) ∙ c .before .before .before .before .if1 .left)))
 
 pub first-row-spec : {M : Type 1} → statement M
 first-row-spec =
     tie.close
-    (tie.spec
-    cause-requires
-    is-refused-requires
-    refused-requires
-    returns
-    returns-2
-    row-sizes-requires
-    slice-aggregate-start-of
-    start-of-requires
-    cast-t13
-    returns-3)
+    (tie.spec (λ c κs. search needs) (λ c κs. search needs) (λ c κs. search needs) returns returns-2 row-sizes-requires (λ c. search needs) start-of-requires (λ c. search needs) returns-3)

@@ -6,13 +6,17 @@ ghost use Prim.Native.Nat.{ℕ, _+_, _*_, _≤_, _<_};
 ghost use lib.ListN.{length, getD};
 ghost use Rattle.numbering.specs.Layout.{InRange, columnSizes, rowSizes, startIn, InBlock};
 
-pub fn column_sizes(l: SocWrLayout) -> [usize; 10]
+pub type ColumnSizes = [usize; 10];
+
+pub type RowSizes = [usize; 17];
+
+pub fn column_sizes(l: SocWrLayout) -> ColumnSizes
     ensures { λ r. ⌜ r ≡ columnSizes l ⌝ }
 {
     [l.k, l.k, l.n, l.m, l.m, l.m, l.m, l.m, l.m, l.cost_columns]
 }
 
-pub fn row_sizes(l: SocWrLayout) -> [usize; 17]
+pub fn row_sizes(l: SocWrLayout) -> RowSizes
     requires { ⌜ InRange l ⌝ }
     ensures { λ r. ⌜ r ≡ rowSizes l ⌝ }
 {

@@ -7,7 +7,7 @@ use native.Mathlib.Omega.{arith}
 use lib.ListN.{length, getD}
 use Rattle.lists.specs.UpTo.{listed, overlay}
 use Rattle.lists.proofs.Overlay.{Overlaid, long, front-none, front-more, listed-all}
-use Rattle.numbering.specs.Lookups.{conesOf, coneCount}
+use Rattle.numbering.specs.Lookups.{conesOf}
 use Rattle.numbering.proofs.ConeLengths.{cones-count}
 use Rattle.numbering.proofs.cones.cones_into.Statement.{statement}
 use Rattle.numbering.proofs.cones.cones_into.Tie as tie

@@ -1,4 +1,5 @@
-use mathlib.Core.Path.{refl, sym, ap, _∙_}
+-- `numbering::lookups::plain_column` meets its contract. Assumes nothing.
+use mathlib.Core.Path.{ap, _∙_}
 use mathlib.Core.List.{List}
 use native.Mathlib.Omega.{arith}
 use lib.ListN.{length}
@@ -11,64 +12,24 @@ use Rattle.numbering.proofs.Asked.{plain-item, plain-place, plain-numbe
 use borrow.Author.Needs.{needs}
 use Rattle.numbering.proofs.lookups.plain_column.Statement.{statement}
 use Rattle.numbering.proofs.lookups.plain_column.Tie as tie
-use Rattle.numbering.proofs.lookups.plain_column.Reads as reads
-use Rattle.numbering.proofs.lookups.plain_column.Lts as lts
-use Rattle.numbering.proofs.inner.blocks.column_sizes.Reads as column-sizes-reads
-use Rattle.numbering.proofs.inner.blocks.start_of.Reads as start-of-reads
-use Rattle.numbering.proofs.inner.counted.Reads as counted-reads
-use Rattle.numbering.proofs.lookups.past.Reads as past-reads
 
--- src/lookups.rt:44:38
-counted-requires : tie.Need-counted-requires
-counted-requires c κs = search needs
-
--- src/lookups.rt:44:17
-column-sizes-requires : tie.Need-column-sizes-requires
-column-sizes-requires c κs = search needs
-
--- src/lookups.rt:45:8
-mul-if1 : tie.Need-mul-if1
-mul-if1 c = search needs
-
--- src/lookups.rt:45:8
-array-read-if1 : tie.Need-array-read-if1
-array-read-if1 c = search needs
-
--- src/lookups.rt:46:9
-past-requires : tie.Need-past-requires
-past-requires c κs = search needs
-
--- src/lookups.rt:46:9
 returns : tie.Need-returns
 unfolding columnAsked
 returns c = let a = c .before .before .before .before .before .args in let e = c .before .before .column-sizes .ensures ∙ ap columnSizes (c .before .before .before .counted .ensures) in c .past .ensures ∙ plain-item _ _ (columnSizes (countedOf (a .n) (a .m) (a .k) (a .s))) 9 (columns-plain (networkOf (a .n) (a .m) (a .k) (a .s) (a .bytes .now))) (a .block) (a .item) (a .place) (omega arith) (rw e at (c .before .if1 .taken))
 
--- src/lookups.rt:49:9
-past-requires-2 : tie.Need-past-requires-2
-past-requires-2 c κs = search needs
-
--- src/lookups.rt:49:9
 returns-2 : tie.Need-returns-2
 unfolding columnAsked
 returns-2 c = let a = c .before .before .before .before .before .before .args in let e = c .before .before .before .column-sizes .ensures ∙ ap columnSizes (c .before .before .before .before .counted .ensures) in let G = networkOf (a .n) (a .m) (a .k) (a .s) (a .bytes .now) in c .past2 .ensures ∙ plain-place _ _ (columnSizes (countedOf (a .n) (a .m) (a .k) (a .s))) 9 (columns-plain G) (a .block) (a .item) (a .place) (omega arith) (column-has G (a .block) (a .item) (a .place) (omega arith)) (rw e at (c .before .before .if1 .left)) (c .before .if2 .taken)
 
--- src/lookups.rt:51:38
-slice-aggregate-start-of : tie.Need-slice-aggregate-start-of
-slice-aggregate-start-of c = search needs
-
--- src/lookups.rt:51:21
 start-of-requires : tie.Need-start-of-requires
 start-of-requires c κs = let e = c .before .before .before .column-sizes .ensures ∙ ap columnSizes (c .before .before .before .before .counted .ensures) in ((omega (arith, ap length e), omega (arith, ap length e)), rw e (column-most _ (counted-range _ _ _ _ _ (c .before .before .before .before .before .before .pre .0))))
 
--- src/lookups.rt:51:21
 add-t15 : tie.Need-add-t15
 add-t15 c = let e = c .before .before .before .before .column-sizes .ensures ∙ ap columnSizes (c .before .before .before .before .before .counted .ensures) in omega (arith, rw e at (c .before .before .before .if1 .left), column-most _ (counted-range _ _ _ _ _ (c .before .before .before .before .before .before .before .pre .0)) (c .before .before .before .before .before .before .before .args .block))
 
--- src/lookups.rt:51:20
 cast-t19 : tie.Need-cast-t19
 cast-t19 c = let e = c .before .before .before .before .column-sizes .ensures ∙ ap columnSizes (c .before .before .before .before .before .counted .ensures) in omega (arith, rw e at (c .before .before .before .if1 .left), column-most _ (counted-range _ _ _ _ _ (c .before .before .before .before .before .before .before .pre .0)) (c .before .before .before .before .before .before .before .args .block))
 
--- src/lookups.rt:31:1
 returns-3 : tie.Need-returns-3
 unfolding columnAsked
 returns-3 c = let a = c .before .before .before .before .before .before .before .args in let e = c .before .before .before .before .column-sizes .ensures ∙ ap columnSizes (c .before .before .before .before .before .counted .ensures) in let G = networkOf (a .n) (a .m) (a .k) (a .s) (a .bytes .now) in plain-number _ _ (columnSizes (countedOf (a .n) (a .m) (a .k) (a .s))) 9 (columns-plain G) (a .block) (a .item) (a .place) (omega arith) (column-has G (a .block) (a .item) (a .place) (omega arith)) (rw e at (c .before .before .before .if1 .left)) (omega arith) _ (c .start-of .ensures .0 ∙ ap (λ (ws : List _). startIn ws (a .block)) e)
@@ -76,17 +37,4 @@ returns-3 c = let a = c .before .before .before .before .before .before .before 
 pub plain-column-spec : {M : Type 1} → statement M
 plain-column-spec =
     tie.close
-    (tie.spec
-    counted-requires
-    column-sizes-requires
-    mul-if1
-    array-read-if1
-    past-requires
-    returns
-    past-requires-2
-    returns-2
-    slice-aggregate-start-of
-    start-of-requires
-    add-t15
-    cast-t19
-    returns-3)
+    (tie.spec (λ c κs. search needs) (λ c κs. search needs) (λ c. search needs) (λ c. search needs) (λ c κs. search needs) returns (λ c κs. search needs) returns-2 (λ c. search needs) start-of-requires add-t15 cast-t19 returns-3)

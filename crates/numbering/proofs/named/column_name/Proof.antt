@@ -1,11 +1,11 @@
-use Prim.Native.Nat.{ℕ}
-use mathlib.Core.Path.{_≡_, sym, ap, _∙_}
+-- `numbering::named::column_name` meets its contract. Assumes nothing.
+use mathlib.Core.Path.{sym, ap, _∙_}
 use native.Mathlib.Omega.{arith}
 use Rattle.records.specs.Network.{networkOf}
 use Rattle.records.proofs.Laws.{accepted}
 use Rattle.numbering.specs.Blocks.{total}
 use Rattle.numbering.specs.Numbering.{nvar}
-use Rattle.numbering.specs.Layout.{layoutOf, layoutColumns}
+use Rattle.numbering.specs.Layout.{layoutColumns}
 use Rattle.numbering.specs.Lookups.{columnNamed}
 use Rattle.numbering.specs.declared.SocWrLayout.{SocWrLayout}
 use Rattle.numbering.proofs.Entered.{gone-on}
@@ -16,59 +16,27 @@ use borrow.Author.Needs.{needs}
 use Rattle.numbering.specs.declared.ColumnName.the-variants.{Pg}
 use Rattle.numbering.proofs.named.column_name.Statement.{statement}
 use Rattle.numbering.proofs.named.column_name.Tie as tie
-use Rattle.numbering.proofs.named.column_name.Reads as reads
-use Rattle.numbering.proofs.named.column_name.Lts as lts
-use Rattle.numbering.proofs.inner.layout.Reads as layout-reads
-use Rattle.numbering.proofs.inner.names.column_of.Reads as column-of-reads
-use Rattle.numbering.proofs.inner.nvar.Reads as nvar-reads
-use Rattle.numbering.proofs.named.column_key_at.Reads as column-key-at-reads
-use Rattle.numbering.proofs.named.no_column.Reads as no-column-reads
-use Rattle.records.proofs.check_records.Reads as check-records-reads
-use Rattle.refusals.proofs.is_refused.Reads as is-refused-reads
 
--- src/named.rt:118:9
-check-records-requires : tie.Need-check-records-requires
-check-records-requires c κs = search needs
-
--- src/named.rt:119:8
-is-refused-requires : tie.Need-is-refused-requires
-is-refused-requires c κs = search needs
-
--- src/named.rt:120:9
-no-column-requires : tie.Need-no-column-requires
-no-column-requires c κs = search needs
-
--- src/named.rt:120:9
 returns : tie.Need-returns
 unfolding columnNamed
 returns c = column-stopped (Pg 0) _ _ (c .no-column .ensures) (c .before .before .before .check-records .ensures) (sym (c .before .before .is-refused .ensures) ∙ c .before .if1 .taken)
 
--- src/named.rt:122:9
 layout-requires : tie.Need-layout-requires
 layout-requires c κs = accepted _ _ _ _ _ (gone-on (c .before .before .check-records .ensures) (sym (c .before .is-refused .ensures) ∙ c .if1 .left))
 
--- src/named.rt:123:8
 nvar-requires : tie.Need-nvar-requires
 nvar-requires c κs = rw (c .layout .ensures) (accepted-range _ _ _ _ _ (accepted _ _ _ _ _ (gone-on (c .before .before .before .check-records .ensures) (sym (c .before .before .is-refused .ensures) ∙ c .before .if1 .left))))
 
--- src/named.rt:123:8
-cast-if2 : tie.Need-cast-if2
-cast-if2 c = search needs
-
--- src/named.rt:124:9
 returns-2 : tie.Need-returns-2
 unfolding columnNamed
 returns-2 c = let G = networkOf (c .before .before .before .before .before .before .before .args .n) (c .before .before .before .before .before .before .before .args .m) (c .before .before .before .before .before .before .before .args .k) (c .before .before .before .before .before .before .before .args .s) (c .before .before .before .before .before .before .before .args .bytes .now) in let z = c .before .nvar .ensures ∙ ap (λ (l : SocWrLayout). total (layoutColumns l)) (c .before .before .layout .ensures) ∙ nvar-layout G in column-past _ _ _ (gone-on (c .before .before .before .before .before .check-records .ensures) (sym (c .before .before .before .before .is-refused .ensures) ∙ c .before .before .before .if1 .left)) (omega (arith, z))
 
--- src/named.rt:126:9
 column-key-at-requires : tie.Need-column-key-at-requires
 column-key-at-requires c κs = let G = networkOf (c .before .before .before .before .before .before .before .args .n) (c .before .before .before .before .before .before .before .args .m) (c .before .before .before .before .before .before .before .args .k) (c .before .before .before .before .before .before .before .args .s) (c .before .before .before .before .before .before .before .args .bytes .now) in let z = c .before .nvar .ensures ∙ ap (λ (l : SocWrLayout). total (layoutColumns l)) (c .before .before .layout .ensures) ∙ nvar-layout G in (accepted _ _ _ _ _ (gone-on (c .before .before .before .before .before .check-records .ensures) (sym (c .before .before .before .before .is-refused .ensures) ∙ c .before .before .before .if1 .left)), c .before .before .layout .ensures, omega (arith, z))
 
--- src/named.rt:127:26
 column-of-requires : tie.Need-column-of-requires
 column-of-requires c κs = let G = networkOf (c .before .before .before .before .before .before .before .before .args .n) (c .before .before .before .before .before .before .before .before .args .m) (c .before .before .before .before .before .before .before .before .args .k) (c .before .before .before .before .before .before .before .before .args .s) (c .before .before .before .before .before .before .before .before .args .bytes .now) in valid-column G (c .column-key-at .result) (c .column-key-at .ensures .valid) .0
 
--- src/named.rt:115:1
 returns-3 : tie.Need-returns-3
 unfolding columnNamed
 returns-3 c = let G = networkOf (c .before .before .before .before .before .before .before .before .before .args .n) (c .before .before .before .before .before .before .before .before .before .args .m) (c .before .before .before .before .before .before .before .before .before .args .k) (c .before .before .before .before .before .before .before .before .before .args .s) (c .before .before .before .before .before .before .before .before .before .args .bytes .now) in let z = c .before .before .before .nvar .ensures ∙ ap (λ (l : SocWrLayout). total (layoutColumns l)) (c .before .before .before .before .layout .ensures) ∙ nvar-layout G in column-given (nvar G) (c .before .before .before .before .before .before .before .before .before .args .p) _ _ (gone-on (c .before .before .before .before .before .before .before .check-records .ensures) (sym (c .before .before .before .before .before .before .is-refused .ensures) ∙ c .before .before .before .before .before .if1 .left)) (omega (arith, z)) (column-right G (c .before .before .before .before .before .before .before .before .before .args .p) (c .before .column-key-at .result) _ (record { block = c .column-of .ensures .block; item = c .column-of .ensures .item; place = c .column-of .ensures .place ∙ sym (valid-column G (c .before .column-key-at .result) (c .before .column-key-at .ensures .valid) .1) }) (c .before .column-key-at .ensures))
@@ -76,15 +44,4 @@ returns-3 c = let G = networkOf (c .before .before .before .before .before .befo
 pub column-name-spec : {M : Type 1} → statement M
 column-name-spec =
     tie.close
-    (tie.spec
-    check-records-requires
-    is-refused-requires
-    no-column-requires
-    returns
-    layout-requires
-    nvar-requires
-    cast-if2
-    returns-2
-    column-key-at-requires
-    column-of-requires
-    returns-3)
+    (tie.spec (λ c κs. search needs) (λ c κs. search needs) (λ c κs. search needs) returns layout-requires nvar-requires (λ c. search needs) returns-2 column-key-at-requires column-of-requires returns-3)

@@ -1,5 +1,5 @@
-use mathlib.Core.Path.{_≡_, sym, ap, _∙_}
-use mathlib.Core.List.{List}
+-- `numbering::named::row_key_at` meets its contract. Assumes nothing.
+use mathlib.Core.Path.{ap, _∙_}
 use native.Mathlib.Omega.{arith}
 use lib.ListN.{length}
 use Rattle.records.specs.Network.{networkOf}
@@ -11,52 +11,31 @@ use Rattle.numbering.proofs.Standing.{row-total, row-even, segment-in, 
 use borrow.Author.Needs.{needs}
 use Rattle.numbering.proofs.named.row_key_at.Statement.{statement}
 use Rattle.numbering.proofs.named.row_key_at.Tie as tie
-use Rattle.numbering.proofs.named.row_key_at.Reads as reads
-use Rattle.numbering.proofs.named.row_key_at.Lts as lts
-use Rattle.numbering.proofs.inner.blocks.block_of.Reads as block-of-reads
-use Rattle.numbering.proofs.inner.blocks.row_sizes.Reads as row-sizes-reads
-use Rattle.numbering.proofs.inner.tally.locate.Reads as locate-reads
 
--- src/named.rt:81:17
 row-sizes-requires : tie.Need-row-sizes-requires
 row-sizes-requires c κs = rw (c .before .pre .1) (accepted-range _ _ _ _ _ (c .before .pre .0))
 
--- src/named.rt:82:30
-slice-aggregate-block-of : tie.Need-slice-aggregate-block-of
-slice-aggregate-block-of c = search needs
-
--- src/named.rt:82:9
 block-of-requires : tie.Need-block-of-requires
 block-of-requires c κs = let G = networkOf (c .before .before .before .args .n) (c .before .before .before .args .m) (c .before .before .before .args .k) (c .before .before .before .args .s) (c .before .before .before .args .bytes .now) in let e = c .before .row-sizes .ensures ∙ ap rowSizes (c .before .before .before .pre .1) in rw e (row-total G (c .before .before .before .pre .0 .counts-add) (c .before .before .before .args .p) (c .before .before .before .pre .2))
 
--- src/named.rt:86:9
 returns : tie.Need-returns
 returns c = let G = networkOf (c .before .before .before .before .before .args .n) (c .before .before .before .before .before .args .m) (c .before .before .before .before .before .args .k) (c .before .before .before .before .before .args .s) (c .before .before .before .before .before .args .bytes .now) in let e = c .before .before .before .row-sizes .ensures ∙ ap rowSizes (c .before .before .before .before .before .pre .1) in let r : InBlock (rowSizes (layoutOf G)) (c .before .before .before .before .before .args .p) (c .before .block-of .result) = rw e at (c .before .block-of .ensures .0) in row-even G (c .before .before .before .before .before .pre .0 .counts-add) (c .before .before .before .before .before .args .p) (c .before .block-of .result) r (c .if1 .taken)
 
--- src/named.rt:93:55
-add-locate : tie.Need-add-locate
-add-locate c = search needs
-
--- src/named.rt:93:13
 locate-requires : tie.Need-locate-requires
 unfolding tallyOf pointsOf
 locate-requires c κs = let G = networkOf (c .before .before .before .before .before .before .args .n) (c .before .before .before .before .before .before .args .m) (c .before .before .before .before .before .before .args .k) (c .before .before .before .before .before .before .args .s) (c .before .before .before .before .before .before .args .bytes .now) in let e = c .before .before .before .before .row-sizes .ensures ∙ ap rowSizes (c .before .before .before .before .before .before .pre .1) in let r : InBlock (rowSizes (layoutOf G)) (c .before .before .before .before .before .before .args .p) (c .before .before .block-of .result) = rw e at (c .before .before .block-of .ensures .0) in (omega arith, segment-in G (c .before .before .before .before .before .before .pre .0 .counts-add) (c .before .before .before .before .before .before .args .p) (c .before .before .block-of .result) r (c .if2 .taken))
 
--- src/named.rt:94:9
 returns-2 : tie.Need-returns-2
 unfolding tallyOf pointsOf
 returns-2 c = let G = networkOf (c .before .before .before .before .before .before .before .args .n) (c .before .before .before .before .before .before .before .args .m) (c .before .before .before .before .before .before .before .args .k) (c .before .before .before .before .before .before .before .args .s) (c .before .before .before .before .before .before .before .args .bytes .now) in let e = c .before .before .before .before .before .row-sizes .ensures ∙ ap rowSizes (c .before .before .before .before .before .before .before .pre .1) in let r : InBlock (rowSizes (layoutOf G)) (c .before .before .before .before .before .before .before .args .p) (c .before .before .before .block-of .result) = rw e at (c .before .before .before .block-of .ensures .0) in segment-stands G (c .before .before .before .before .before .before .before .pre .0 .counts-add) (c .before .before .before .before .before .before .before .args .p) (c .before .before .before .block-of .result) r (c .before .if2 .taken) (c .locate .result .item) (c .locate .result .at) (c .locate .ensures .below) (c .locate .ensures .inside) (c .locate .ensures .number)
 
--- src/named.rt:101:9
 returns-3 : tie.Need-returns-3
 returns-3 c = let G = networkOf (c .before .before .before .before .before .before .before .args .n) (c .before .before .before .before .before .before .before .args .m) (c .before .before .before .before .before .before .before .args .k) (c .before .before .before .before .before .before .before .args .s) (c .before .before .before .before .before .before .before .args .bytes .now) in let e = c .before .before .before .before .before .row-sizes .ensures ∙ ap rowSizes (c .before .before .before .before .before .before .before .pre .1) in let r : InBlock (rowSizes (layoutOf G)) (c .before .before .before .before .before .before .before .args .p) (c .before .before .before .block-of .result) = rw e at (c .before .before .before .block-of .ensures .0) in jabr-stands G (c .before .before .before .before .before .before .before .pre .0 .counts-add) (c .before .before .before .before .before .before .before .args .p) (c .before .before .before .block-of .result) r (c .if3 .taken)
 
--- src/named.rt:107:9
 locate-requires-2 : tie.Need-locate-requires-2
 unfolding tallyOf pointsOf
 locate-requires-2 c κs = let G = networkOf (c .before .before .before .before .before .before .before .args .n) (c .before .before .before .before .before .before .before .args .m) (c .before .before .before .before .before .before .before .args .k) (c .before .before .before .before .before .before .before .args .s) (c .before .before .before .before .before .before .before .args .bytes .now) in let e = c .before .before .before .before .before .row-sizes .ensures ∙ ap rowSizes (c .before .before .before .before .before .before .before .pre .1) in let r : InBlock (rowSizes (layoutOf G)) (c .before .before .before .before .before .before .before .args .p) (c .before .before .before .block-of .result) = rw e at (c .before .before .before .block-of .ensures .0) in (omega arith, thermal-in G (c .before .before .before .before .before .before .before .pre .0 .counts-add) (c .before .before .before .before .before .before .before .args .p) (c .before .before .before .block-of .result) r (omega (arith, c .before .before .before .block-of .ensures .1, ap length e)))
 
--- src/named.rt:77:1
 returns-4 : tie.Need-returns-4
 unfolding tallyOf pointsOf
 returns-4 c = let G = networkOf (c .before .before .before .before .before .before .before .before .args .n) (c .before .before .before .before .before .before .before .before .args .m) (c .before .before .before .before .before .before .before .before .args .k) (c .before .before .before .before .before .before .before .before .args .s) (c .before .before .before .before .before .before .before .before .args .bytes .now) in let e = c .before .before .before .before .before .before .row-sizes .ensures ∙ ap rowSizes (c .before .before .before .before .before .before .before .before .pre .1) in let r : InBlock (rowSizes (layoutOf G)) (c .before .before .before .before .before .before .before .before .args .p) (c .before .before .before .before .block-of .result) = rw e at (c .before .before .before .before .block-of .ensures .0) in thermal-stands G (c .before .before .before .before .before .before .before .before .pre .0 .counts-add) (c .before .before .before .before .before .before .before .before .args .p) (c .before .before .before .before .block-of .result) r (omega (arith, c .before .before .before .before .block-of .ensures .1, ap length e)) (c .locate2 .result .item) (c .locate2 .result .at) (c .locate2 .ensures .below) (c .locate2 .ensures .inside) (c .locate2 .ensures .number)
@@ -64,14 +43,4 @@ returns-4 c = let G = networkOf (c .before .before .before .before .before .befo
 pub row-key-at-spec : {M : Type 1} → statement M
 row-key-at-spec =
     tie.close
-    (tie.spec
-    row-sizes-requires
-    slice-aggregate-block-of
-    block-of-requires
-    returns
-    add-locate
-    locate-requires
-    returns-2
-    returns-3
-    locate-requires-2
-    returns-4)
+    (tie.spec row-sizes-requires (λ c. search needs) block-of-requires returns (λ c. search needs) locate-requires returns-2 returns-3 locate-requires-2 returns-4)

@@ -1,11 +1,11 @@
-use Prim.Native.Nat.{ℕ}
-use mathlib.Core.Path.{_≡_, sym, ap, _∙_}
+-- `numbering::named::row_name` meets its contract. Assumes nothing.
+use mathlib.Core.Path.{sym, ap, _∙_}
 use native.Mathlib.Omega.{arith}
 use Rattle.records.specs.Network.{networkOf}
 use Rattle.records.proofs.Laws.{accepted}
 use Rattle.numbering.specs.Blocks.{total}
 use Rattle.numbering.specs.Numbering.{ncon}
-use Rattle.numbering.specs.Layout.{layoutOf, layoutRows}
+use Rattle.numbering.specs.Layout.{layoutRows}
 use Rattle.numbering.specs.Lookups.{rowNamed}
 use Rattle.numbering.specs.declared.SocWrLayout.{SocWrLayout}
 use Rattle.numbering.proofs.Entered.{gone-on}
@@ -16,59 +16,27 @@ use borrow.Author.Needs.{needs}
 use Rattle.numbering.specs.declared.RowName.the-variants.{Pbal}
 use Rattle.numbering.proofs.named.row_name.Statement.{statement}
 use Rattle.numbering.proofs.named.row_name.Tie as tie
-use Rattle.numbering.proofs.named.row_name.Reads as reads
-use Rattle.numbering.proofs.named.row_name.Lts as lts
-use Rattle.numbering.proofs.inner.layout.Reads as layout-reads
-use Rattle.numbering.proofs.inner.names.row_of.Reads as row-of-reads
-use Rattle.numbering.proofs.inner.ncon.Reads as ncon-reads
-use Rattle.numbering.proofs.named.no_row.Reads as no-row-reads
-use Rattle.numbering.proofs.named.row_key_at.Reads as row-key-at-reads
-use Rattle.records.proofs.check_records.Reads as check-records-reads
-use Rattle.refusals.proofs.is_refused.Reads as is-refused-reads
 
--- src/named.rt:133:9
-check-records-requires : tie.Need-check-records-requires
-check-records-requires c κs = search needs
-
--- src/named.rt:134:8
-is-refused-requires : tie.Need-is-refused-requires
-is-refused-requires c κs = search needs
-
--- src/named.rt:135:9
-no-row-requires : tie.Need-no-row-requires
-no-row-requires c κs = search needs
-
--- src/named.rt:135:9
 returns : tie.Need-returns
 unfolding rowNamed
 returns c = row-stopped (Pbal 0) _ _ (c .no-row .ensures) (c .before .before .before .check-records .ensures) (sym (c .before .before .is-refused .ensures) ∙ c .before .if1 .taken)
 
--- src/named.rt:137:9
 layout-requires : tie.Need-layout-requires
 layout-requires c κs = accepted _ _ _ _ _ (gone-on (c .before .before .check-records .ensures) (sym (c .before .is-refused .ensures) ∙ c .if1 .left))
 
--- src/named.rt:138:8
 ncon-requires : tie.Need-ncon-requires
 ncon-requires c κs = rw (c .layout .ensures) (accepted-range _ _ _ _ _ (accepted _ _ _ _ _ (gone-on (c .before .before .before .check-records .ensures) (sym (c .before .before .is-refused .ensures) ∙ c .before .if1 .left))))
 
--- src/named.rt:138:8
-cast-if2 : tie.Need-cast-if2
-cast-if2 c = search needs
-
--- src/named.rt:139:9
 returns-2 : tie.Need-returns-2
 unfolding rowNamed
 returns-2 c = let G = networkOf (c .before .before .before .before .before .before .before .args .n) (c .before .before .before .before .before .before .before .args .m) (c .before .before .before .before .before .before .before .args .k) (c .before .before .before .before .before .before .before .args .s) (c .before .before .before .before .before .before .before .args .bytes .now) in let z = c .before .ncon .ensures ∙ ap (λ (l : SocWrLayout). total (layoutRows l)) (c .before .before .layout .ensures) ∙ ncon-layout G ((accepted _ _ _ _ _ (gone-on (c .before .before .before .before .before .check-records .ensures) (sym (c .before .before .before .before .is-refused .ensures) ∙ c .before .before .before .if1 .left))) .counts-add) in row-past _ _ _ (gone-on (c .before .before .before .before .before .check-records .ensures) (sym (c .before .before .before .before .is-refused .ensures) ∙ c .before .before .before .if1 .left)) (omega (arith, z))
 
--- src/named.rt:141:9
 row-key-at-requires : tie.Need-row-key-at-requires
 row-key-at-requires c κs = let G = networkOf (c .before .before .before .before .before .before .before .args .n) (c .before .before .before .before .before .before .before .args .m) (c .before .before .before .before .before .before .before .args .k) (c .before .before .before .before .before .before .before .args .s) (c .before .before .before .before .before .before .before .args .bytes .now) in let z = c .before .ncon .ensures ∙ ap (λ (l : SocWrLayout). total (layoutRows l)) (c .before .before .layout .ensures) ∙ ncon-layout G ((accepted _ _ _ _ _ (gone-on (c .before .before .before .before .before .check-records .ensures) (sym (c .before .before .before .before .is-refused .ensures) ∙ c .before .before .before .if1 .left))) .counts-add) in (accepted _ _ _ _ _ (gone-on (c .before .before .before .before .before .check-records .ensures) (sym (c .before .before .before .before .is-refused .ensures) ∙ c .before .before .before .if1 .left)), c .before .before .layout .ensures, omega (arith, z))
 
--- src/named.rt:142:20
 row-of-requires : tie.Need-row-of-requires
 row-of-requires c κs = let G = networkOf (c .before .before .before .before .before .before .before .before .args .n) (c .before .before .before .before .before .before .before .before .args .m) (c .before .before .before .before .before .before .before .before .args .k) (c .before .before .before .before .before .before .before .before .args .s) (c .before .before .before .before .before .before .before .before .args .bytes .now) in valid-row G (c .row-key-at .result) (c .row-key-at .ensures .valid)
 
--- src/named.rt:130:1
 returns-3 : tie.Need-returns-3
 unfolding rowNamed
 returns-3 c = let G = networkOf (c .before .before .before .before .before .before .before .before .before .args .n) (c .before .before .before .before .before .before .before .before .before .args .m) (c .before .before .before .before .before .before .before .before .before .args .k) (c .before .before .before .before .before .before .before .before .before .args .s) (c .before .before .before .before .before .before .before .before .before .args .bytes .now) in let z = c .before .before .before .ncon .ensures ∙ ap (λ (l : SocWrLayout). total (layoutRows l)) (c .before .before .before .before .layout .ensures) ∙ ncon-layout G ((accepted _ _ _ _ _ (gone-on (c .before .before .before .before .before .before .before .check-records .ensures) (sym (c .before .before .before .before .before .before .is-refused .ensures) ∙ c .before .before .before .before .before .if1 .left))) .counts-add) in row-given (ncon G) (c .before .before .before .before .before .before .before .before .before .args .p) _ _ (gone-on (c .before .before .before .before .before .before .before .check-records .ensures) (sym (c .before .before .before .before .before .before .is-refused .ensures) ∙ c .before .before .before .before .before .if1 .left)) (omega (arith, z)) (row-right G (c .before .before .before .before .before .before .before .before .before .args .p) (c .before .row-key-at .result) _ (record { block = c .row-of .ensures .block; item = c .row-of .ensures .item; place = c .row-of .ensures .place }) (c .before .row-key-at .ensures))
@@ -76,15 +44,4 @@ returns-3 c = let G = networkOf (c .before .before .before .before .before .befo
 pub row-name-spec : {M : Type 1} → statement M
 row-name-spec =
     tie.close
-    (tie.spec
-    check-records-requires
-    is-refused-requires
-    no-row-requires
-    returns
-    layout-requires
-    ncon-requires
-    cast-if2
-    returns-2
-    row-key-at-requires
-    row-of-requires
-    returns-3)
+    (tie.spec (λ c κs. search needs) (λ c κs. search needs) (λ c κs. search needs) returns layout-requires ncon-requires (λ c. search needs) returns-2 row-key-at-requires row-of-requires returns-3)

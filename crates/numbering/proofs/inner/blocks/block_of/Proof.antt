@@ -1,6 +1,6 @@
 -- `numbering::inner::blocks::block_of` meets its contract. The point lies past the blocks passed, by the rest. Assumes nothing.
 use borrow.Author.Needs.{needs}
-use Prim.Native.Nat.{_+_, _<_, _≤_, _-_}
+use Prim.Native.Nat.{_+_, _<_, _-_}
 use mathlib.Core.Path.{_≡_}
 use native.Mathlib.Omega.{arith}
 use lib.ListN.{length}

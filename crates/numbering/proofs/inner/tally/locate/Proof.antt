@@ -1,6 +1,6 @@
 -- `numbering::inner::tally::locate` meets its contract. The point lies past the records passed, by the rest. Assumes nothing.
 use borrow.Author.Needs.{needs}
-use Prim.Native.Nat.{_+_, _<_, _≤_, _-_}
+use Prim.Native.Nat.{_+_, _<_, _-_}
 use mathlib.Core.Path.{_≡_}
 use native.Mathlib.Omega.{arith}
 use Rattle.numbering.specs.Tally.{tallyOf}
