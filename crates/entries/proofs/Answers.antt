@@ -7,11 +7,11 @@ use native.Mathlib.Omega.{arith}
 use native.Mathlib.Nat.{zero-add}
 use borrow.Author.Tests.{le-leb, eqb-true}
 use lib.Dec.{T}
-use lib.ListN.{length}
+use lib.ListN.{length, length-append}
 use lib.Ieee.{Float}
 use Rattle.lists.specs.Entries.{Entry, rowOf, colOf, valOf}
 use Rattle.lists.specs.Out.{out, Wrote}
-use Rattle.lists.proofs.Sums.{count-le}
+use Rattle.lists.proofs.Sums.{each-length, sum-ones, sum-le}
 use Rattle.lists.proofs.Written.{pos, rows-front, cols-front, vals-front}
 use Rattle.refusals.specs.Refusals.{_orElse_, isRefused, refuseUnless, roomFor, writtenIf, leftIn}
 use Rattle.refusals.specs.declared.Checked.{Checked}
@@ -27,23 +27,20 @@ use Rattle.numbering.specs.Numbering.{nvar, ncon, limits}
 use Rattle.numbering.specs.Blocks.{total}
 use Rattle.numbering.specs.Layout.{layoutOf, layoutColumns, layoutRows}
 use Rattle.numbering.specs.declared.SocWrLayout.{SocWrLayout}
-use Rattle.numbering.proofs.Layouts.{ncon-layout}
 use Rattle.kkt.specs.Kkt.{kkt}
 use Rattle.kkt.proofs.Demand3.{kkt-places}
 use Rattle.lines.specs.Line.{networkIn, Network}
 use Rattle.lines.proofs.Lines.{in-range}
-use Rattle.entries.specs.Writes.{Given}
+use Rattle.rows.specs.Program.{inequalities}
+use Rattle.numbering.specs.declared.RowName.the-variants.{Wub}
+use Rattle.entries.specs.Writes.{Given, rowIn}
 use Rattle.entries.specs.Answer.{solutionCause, roomCause, Answered, mostOf}
-use Rattle.entries.proofs.Laws.{nvar-is}
 
 -- accepted counts and records with the layout that is worked out of them
 pub network : {n m k s : ℕ} {bytes : List ℕ} {l : SocWrLayout} → Network.Accepted n m k s bytes → l ≡ layoutOf (networkOf n m k s bytes) → Network l bytes
 network {n} {m} {k} {s} {bytes} a e = subst (λ (x : SocWrLayout). Network x bytes) (sym e) (record { accepted = a; layout = refl })
 
 module _ {l : SocWrLayout} {bytes : List ℕ} where
-  pub ncon-is : Network l bytes → {v : ℕ} → v ≡ total (layoutRows l) → v ≡ ncon (networkIn l bytes)
-  ncon-is h e = e ∙ ap (λ (k : SocWrLayout). total (layoutRows k)) (h .layout) ∙ ncon-layout (networkIn l bytes) (h .accepted .counts-add)
-
   pub given : {x z : List Float} → Network l bytes → solutionCause (networkIn l bytes) x z ≡ Accepted → Given l bytes x z
   unfolding solutionCause
   given h e =
@@ -51,12 +48,22 @@ module _ {l : SocWrLayout} {bytes : List ℕ} where
       record { network = h; x-length = eqb-true _ _ (test-held _ _ (p .0)); z-length = eqb-true _ _ (test-held _ _ (p .1)) }
 
   -- the list is not longer than demand 3 says
-  pub short : {x z : List Float} → Given l bytes x z → (length (kkt (networkIn l bytes) x z) ≤ mostOf l) × (mostOf l < 2 ^ 31)
+  pub short : {x z : List Float} → Given l bytes x z → (length (kkt (networkIn l bytes) x z) ≤ mostOf l) × (mostOf l + l .n < 2 ^ 31)
   short {x} {z} g =
       let h = g .network in
       let q = in-range h in
       let t : l .t ≡ limits (networkIn l bytes) = ap (λ (k : SocWrLayout). k .t) (h .layout) in
       (omega (arith, kkt-places (networkIn l bytes) (sound (l .n) (l .m) (l .k) (l .s) bytes (h .accepted)) x z .bound, t), omega arith)
+
+-- the rows of the nonnegative cone are at least as many entries as buses
+pub covers : (G : AcNetwork Float) (x z : List Float) → G .n ≤ length (inequalities G (rowIn G x z true))
+unfolding rowIn
+covers G x z =
+    simp length-append
+    (omega (arith, each-length (G .n) (λ i. rowIn G x z true (Wub i)), sum-ones (G .n), sum-le (G .n) (λ i. 1) (λ i. length (rowIn G x z true (Wub i))) (λ i d. one-at-least i)))
+  where
+    one-at-least : (i : ℕ) → 1 ≤ length (rowIn G x z true (Wub i))
+    one-at-least i = rw length-append (omega arith)
 
 pub rooms : (need : ℕ) (rs cs : List ℕ) (vs : List Float) → roomCause need rs cs vs ≡ Accepted → (need ≤ length rs) × (need ≤ length cs) × (need ≤ length vs)
 unfolding roomCause

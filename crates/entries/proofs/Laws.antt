@@ -18,7 +18,6 @@ use Rattle.numbering.specs.Layout.{layoutColumns, layoutColumn}
 use Rattle.numbering.specs.declared.ColumnName.the-variants.{Pg}
 use Rattle.rows.specs.Ops.{rounded}
 use Rattle.numbering.specs.declared.SocWrLayout.{SocWrLayout}
-use Rattle.numbering.proofs.Layouts.{nvar-layout}
 use Rattle.numbering.specs.declared.RowName.{RowName}
 use Rattle.rows.specs.Rows.{Term, terms, b, zero64}
 use Rattle.rows.specs.Program.{nonzero, slack, sumOf}
@@ -26,7 +25,7 @@ use Rattle.kkt.specs.Kkt.{arrow, kktRow, scaled, plainRow, boundRow, coneRow, c
 use Rattle.lines.specs.Line.{networkIn, Network, lineAt, spotSum, lineSum, lineSlack, Within, Stands, coneLine, ConeStands}
 use Rattle.lines.specs.Ohm.{ohmAt, OhmStands}
 use Rattle.lines.specs.declared.Ohm.{Ohm}
-use Rattle.lines.proofs.Lines.{in-range}
+use Rattle.lines.proofs.Sizes.{nvar-is, small}
 use Rattle.lines.specs.declared.Line.{Line}
 use Rattle.lines.specs.declared.Cone.{Cone}
 use Rattle.entries.specs.declared.Quad.{Quad}
@@ -120,15 +119,6 @@ last-part q (suc (suc zero)) x y z = absurd (z refl)
 last-part q (suc (suc (suc l))) x y z = refl
 
 -- ---- what a writer of a row asks, of a network
-module _ {l : SocWrLayout} {bytes : List ℕ} (h : Network l bytes) where
-  pub nvar-is : {v : ℕ} → v ≡ total (layoutColumns l) → v ≡ nvar (networkIn l bytes)
-  nvar-is e = e ∙ ap (λ (k : SocWrLayout). total (layoutColumns k)) (h .layout) ∙ nvar-layout (networkIn l bytes)
-
-  pub small : nvar (networkIn l bytes) + ncon (networkIn l bytes) < 2 ^ 32
-  small =
-      let q = in-range h in
-      let G = networkIn l bytes in
-      omega (arith, h .accepted .counts-add, count-le (l .m) (G .limited), count-le (l .k) (G .piecewise))
 
 pub record Ready (v : ℕ) (x z : List Float) (d : Bool) (line : Line) (es : List Entry) : Type 0 where
   pub within : Within (length x) (length z) line

@@ -1,4 +1,3 @@
 pub mod Rooms
 pub mod Laws
-pub mod Balances
 pub mod Answers

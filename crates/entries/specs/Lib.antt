@@ -1,4 +1,3 @@
 pub mod Writes
 pub mod Kinds
-pub mod Ends
 pub mod Answer

@@ -2,18 +2,18 @@
 use Prim.Native.Nat.{ℕ, _+_, _<_, _^_}
 use mathlib.Core.Path.{_≡_}
 use mathlib.Core.Bool.{Bool, cond}
-use mathlib.Core.List.{List, [], _∷_, _++_}
+use mathlib.Core.List.{List, [], _∷_, _++_, map}
 use lib.ListN.{length, getD}
 use lib.Ieee.{Float, binary64, nan, neg, ne, mul}
 use Rattle.lists.specs.UpTo.{each, when}
-use Rattle.lists.specs.Entries.{Entry, entry}
+use Rattle.lists.specs.Entries.{Entry, entry, turned}
 use Rattle.records.specs.AcNetwork.{AcNetwork}
 use Rattle.numbering.specs.Numbering.{nvar, ncon, rowNumber}
 use Rattle.numbering.specs.declared.SocWrLayout.{SocWrLayout}
 use Rattle.numbering.specs.declared.RowName.{RowName}
 use Rattle.numbering.specs.declared.RowName.the-variants.{Wub, Wlb, Pgub, Pglb}
 use Rattle.rows.specs.Rows.{zero64}
-use Rattle.rows.specs.Program.{nonzero, slack, thermalFrom, thermalTo}
+use Rattle.rows.specs.Program.{nonzero, slack, thermalFrom, thermalTo, quadratic, equalities, everyRow}
 use Rattle.kkt.specs.Kkt.{arrow, plainRow, boundRow, coneBlock}
 use Rattle.lines.specs.Line.{networkIn, Network, lineAt, lineSlack, coneLine}
 use Rattle.lines.specs.declared.Line.{Line}
@@ -96,3 +96,7 @@ thermalIn G x z d e = when (G .limited e) (coneIn G x z d 3 (thermalFrom e) ++ c
 -- the first four kinds of `inequalities`
 abbrev pub firstBounds : AcNetwork Float → (RowName → List Entry) → List Entry
 firstBounds G f = each (G .n) (λ i. f (Wub i)) ++ each (G .n) (λ i. f (Wlb i)) ++ each (G .k) (λ g. f (Pgub g)) ++ each (G .k) (λ g. f (Pglb g))
+
+-- the list up to the rows of the zero cone
+abbrev pub stationarity : AcNetwork Float → List Entry
+stationarity G = quadratic G ++ map turned (everyRow G (plainRow G)) ++ equalities G (plainRow G)

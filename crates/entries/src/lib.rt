@@ -1,9 +1,7 @@
 // The entries of the KKT matrix, written to three lent lists.
-mod balance;
 mod blocks;
 mod bounds;
 mod cones;
-mod ends;
 mod ohm;
 mod segments;
 mod single;
@@ -54,13 +52,6 @@ pub enum Flow {
     Qf,
     Pt,
     Qt,
-}
-
-// What stands at a bus: a generator, or a branch with its from or its to end.
-pub enum End {
-    Gen,
-    From,
-    To,
 }
 
 fn most(l: SocWrLayout) -> usize

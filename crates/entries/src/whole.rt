@@ -1,13 +1,13 @@
 // The parts of the list, each after the other.
 use crate::Bound;
 use crate::Flow;
-use crate::balance::balance_rows;
 use crate::blocks::jabr_rows;
 use crate::blocks::put_quadratic;
 use crate::blocks::thermal_rows;
 use crate::bounds::bound_rows;
 use crate::ohm::ohm_rows;
 use crate::segments::segment_rows;
+use balance::inner::sorted::balance_rows;
 use numbering::SocWrLayout;
 ghost use mathlib.Core.Path.{_≡_};
 ghost use Prim.Native.Nat.{_+_, _*_, _<_, _^_};
@@ -18,7 +18,8 @@ ghost use Rattle.lists.specs.Entries.{turned};
 ghost use Rattle.rows.specs.Program.{equalities, inequalities, secondOrder, everyRow};
 ghost use Rattle.kkt.specs.Kkt.{plainRow, kkt};
 ghost use Rattle.lines.specs.Line.{networkIn, Network};
-ghost use Rattle.entries.specs.Writes.{Given, rowIn, coneIn, firstBounds};
+ghost use Rattle.dealing.specs.Fill.{Ahead, Finished};
+ghost use Rattle.entries.specs.Writes.{Given, rowIn, coneIn, firstBounds, stationarity};
 
 // The rows of the zero cone.
 fn equality_rows(
@@ -30,8 +31,8 @@ fn equality_rows(
     bytes: &[u8],
 ) -> usize
     requires { ⌜ Network l (now bytes) ⌝ }
-    requires { ⌜ at + length (equalities (networkIn l (now bytes)) (plainRow (networkIn l (now bytes)))) < 2 ^ 64 ⌝ }
-    ensures { λ next. ⌜ Wrote (equalities (networkIn l (now (bytes .entry))) (plainRow (networkIn l (now (bytes .entry))))) (out (now (rows .entry)) (now (cols .entry)) (now (vals .entry)) at) (out (now (rows .exit)) (now (cols .exit)) (now (vals .exit)) next) ⌝ }
+    requires { ⌜ at + length (equalities (networkIn l (now bytes)) (plainRow (networkIn l (now bytes)))) + l .n < 2 ^ 31 ⌝ }
+    ensures { λ next. ⌜ Ahead (l .n) (equalities (networkIn l (now (bytes .entry))) (plainRow (networkIn l (now (bytes .entry))))) (now (rows .entry)) (now (cols .entry)) (now (vals .entry)) at (now (rows .exit)) (now (cols .exit)) (now (vals .exit)) next ⌝ }
 {
     let n1 = balance_rows(rows, cols, vals, at, l, bytes, false);
     let n2 = balance_rows(rows, cols, vals, n1, l, bytes, true);
@@ -118,8 +119,8 @@ fn program_rows(
     z: &[f64],
 ) -> usize
     requires { ⌜ Given l (now bytes) (now x) (now z) ⌝ }
-    requires { ⌜ at + length (everyRow (networkIn l (now bytes)) (plainRow (networkIn l (now bytes)))) < 2 ^ 64 ⌝ }
-    ensures { λ next. ⌜ Wrote (everyRow (networkIn l (now (bytes .entry))) (plainRow (networkIn l (now (bytes .entry))))) (out (now (rows .entry)) (now (cols .entry)) (now (vals .entry)) at) (out (now (rows .exit)) (now (cols .exit)) (now (vals .exit)) next) ⌝ }
+    requires { ⌜ at + length (everyRow (networkIn l (now bytes)) (plainRow (networkIn l (now bytes)))) + l .n < 2 ^ 31 ⌝ }
+    ensures { λ next. ⌜ Ahead (l .n) (everyRow (networkIn l (now (bytes .entry))) (plainRow (networkIn l (now (bytes .entry))))) (now (rows .entry)) (now (cols .entry)) (now (vals .entry)) at (now (rows .exit)) (now (cols .exit)) (now (vals .exit)) next ⌝ }
 {
     let n1 = equality_rows(rows, cols, vals, at, l, bytes);
     let n2 = inequality_rows(rows, cols, vals, n1, l, bytes, x, z, false);
@@ -138,10 +139,30 @@ fn turned_rows(
     z: &[f64],
 ) -> usize
     requires { ⌜ Given l (now bytes) (now x) (now z) ⌝ }
-    requires { ⌜ at + length (map turned (everyRow (networkIn l (now bytes)) (plainRow (networkIn l (now bytes))))) < 2 ^ 64 ⌝ }
-    ensures { λ next. ⌜ Wrote (map turned (everyRow (networkIn l (now (bytes .entry))) (plainRow (networkIn l (now (bytes .entry)))))) (out (now (rows .entry)) (now (cols .entry)) (now (vals .entry)) at) (out (now (rows .exit)) (now (cols .exit)) (now (vals .exit)) next) ⌝ }
+    requires { ⌜ at + length (map turned (everyRow (networkIn l (now bytes)) (plainRow (networkIn l (now bytes))))) + l .n < 2 ^ 31 ⌝ }
+    ensures { λ next. ⌜ Ahead (l .n) (map turned (everyRow (networkIn l (now (bytes .entry))) (plainRow (networkIn l (now (bytes .entry)))))) (now (rows .entry)) (now (cols .entry)) (now (vals .entry)) at (now (rows .exit)) (now (cols .exit)) (now (vals .exit)) next ⌝ }
 {
     program_rows(cols, rows, vals, at, l, bytes, x, z)
+}
+
+// The list up to the rows of the zero cone.
+fn first_part(
+    rows: &mut [u32],
+    cols: &mut [u32],
+    vals: &mut [f64],
+    at: usize,
+    l: SocWrLayout,
+    bytes: &[u8],
+    x: &[f64],
+    z: &[f64],
+) -> usize
+    requires { ⌜ Given l (now bytes) (now x) (now z) ⌝ }
+    requires { ⌜ at + length (stationarity (networkIn l (now bytes))) + l .n < 2 ^ 31 ⌝ }
+    ensures { λ next. ⌜ Ahead (l .n) (stationarity (networkIn l (now (bytes .entry)))) (now (rows .entry)) (now (cols .entry)) (now (vals .entry)) at (now (rows .exit)) (now (cols .exit)) (now (vals .exit)) next ⌝ }
+{
+    let n1 = put_quadratic(rows, cols, vals, at, l, bytes);
+    let n2 = turned_rows(rows, cols, vals, n1, l, bytes, x, z);
+    equality_rows(rows, cols, vals, n2, l, bytes)
 }
 
 // The whole list.
@@ -156,14 +177,12 @@ pub fn kkt_list(
     z: &[f64],
 ) -> usize
     requires { ⌜ Given l (now bytes) (now x) (now z) ⌝ }
-    requires { ⌜ at + length (kkt (networkIn l (now bytes)) (now x) (now z)) < 2 ^ 64 ⌝ }
-    ensures { λ next. ⌜ Wrote (kkt (networkIn l (now (bytes .entry))) (now (x .entry)) (now (z .entry))) (out (now (rows .entry)) (now (cols .entry)) (now (vals .entry)) at) (out (now (rows .exit)) (now (cols .exit)) (now (vals .exit)) next) ⌝ }
+    requires { ⌜ at + length (kkt (networkIn l (now bytes)) (now x) (now z)) + l .n < 2 ^ 31 ⌝ }
+    ensures { λ next. ⌜ Finished (kkt (networkIn l (now (bytes .entry))) (now (x .entry)) (now (z .entry))) (now (rows .entry)) (now (cols .entry)) (now (vals .entry)) at (now (rows .exit)) (now (cols .exit)) (now (vals .exit)) next ⌝ }
 {
-    let n1 = put_quadratic(rows, cols, vals, at, l, bytes);
-    let n2 = turned_rows(rows, cols, vals, n1, l, bytes, x, z);
-    let n3 = equality_rows(rows, cols, vals, n2, l, bytes);
-    let n4 = inequality_rows(rows, cols, vals, n3, l, bytes, x, z, true);
-    cone_rows(rows, cols, vals, n4, l, bytes, x, z, true)
+    let n1 = first_part(rows, cols, vals, at, l, bytes, x, z);
+    let n2 = inequality_rows(rows, cols, vals, n1, l, bytes, x, z, true);
+    cone_rows(rows, cols, vals, n2, l, bytes, x, z, true)
 }
 
 // How many entries the list has: they are written to places that are dropped.

@@ -2,8 +2,7 @@
 use mathlib.Core.Path.{_∙_}
 use Rattle.lines.proofs.Lines.{in-range}
 use Rattle.entries.specs.Answer.{solutionCause}
-use Rattle.entries.proofs.Laws.{nvar-is}
-use Rattle.entries.proofs.Answers.{ncon-is}
+use Rattle.lines.proofs.Sizes.{nvar-is, ncon-is}
 use borrow.Author.Needs.{needs}
 use Rattle.entries.proofs.solution_cause.Statement.{statement}
 use Rattle.entries.proofs.solution_cause.Tie as tie
