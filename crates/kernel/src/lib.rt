@@ -7,7 +7,7 @@ ghost use mathlib.Core.Path.{_≡_};
 ghost use Rattle.refusals.specs.Refusals.{checkedNumber, checkedValue, writtenNumber, writtenValue};
 ghost use Rattle.kernel.specs.Answers.{CheckedAnswer, WrittenAnswer};
 
-pub mod kkt;
+pub mod kkt_matrix;
 pub mod numbers;
 pub mod readings;
 pub mod sens;
