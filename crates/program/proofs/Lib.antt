@@ -8,3 +8,4 @@ pub mod Answers
 pub mod Dealing
 pub mod BusColumns
 pub mod Counts
+pub mod Written
