@@ -9,3 +9,4 @@ pub mod Dealing
 pub mod BusColumns
 pub mod Counts
 pub mod Written
+pub mod PartsOfA

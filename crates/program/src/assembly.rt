@@ -25,7 +25,14 @@ ghost use Rattle.program.specs.Buses.{busItems};
 ghost use Rattle.program.specs.Parts.{generatorColumns, productColumns, flowColumns, branchColumns, busCount, endCount};
 
 // The pg and qg columns.
-fn fill_generators(starts: &mut [u32], rows: &mut [u32], vals: &mut [f64], at: usize, l: SocWrLayout, bytes: &[u8]) -> usize
+fn fill_generators(
+    starts: &mut [u32],
+    rows: &mut [u32],
+    vals: &mut [f64],
+    at: usize,
+    l: SocWrLayout,
+    bytes: &[u8],
+) -> usize
     requires { ⌜ Ready l (now bytes) ⌝ }
     requires { ⌜ at ≡ 0 ⌝ }
     ensures { λ x. ⌜ Columns (generatorColumns (netOf l (now (bytes .entry)))) 0 (now (starts .entry)) (cellOut (now (rows .entry)) (now (vals .entry)) at) (now (starts .exit)) (cellOut (now (rows .exit)) (now (vals .exit)) x) ⌝ }
@@ -36,7 +43,14 @@ fn fill_generators(starts: &mut [u32], rows: &mut [u32], vals: &mut [f64], at: u
 }
 
 // The w columns.
-fn fill_buses(starts: &mut [u32], rows: &mut [u32], vals: &mut [f64], at: usize, l: SocWrLayout, bytes: &[u8]) -> usize
+fn fill_buses(
+    starts: &mut [u32],
+    rows: &mut [u32],
+    vals: &mut [f64],
+    at: usize,
+    l: SocWrLayout,
+    bytes: &[u8],
+) -> usize
     requires { ⌜ Ready l (now bytes) ⌝ }
     requires { ⌜ (at < 900000) × (2 * l .k + l .n + 1 ≤ length (now starts)) ⌝ }
     ensures { λ x. ⌜ Columns (listed (l .n) (wCells (netOf l (now (bytes .entry))))) (2 * l .k) (now (starts .entry)) (cellOut (now (rows .entry)) (now (vals .entry)) at) (now (starts .exit)) (cellOut (now (rows .exit)) (now (vals .exit)) x) ⌝ }
@@ -48,7 +62,14 @@ fn fill_buses(starts: &mut [u32], rows: &mut [u32], vals: &mut [f64], at: usize,
 }
 
 // The wr and wi columns.
-fn fill_products(starts: &mut [u32], rows: &mut [u32], vals: &mut [f64], at: usize, l: SocWrLayout, bytes: &[u8]) -> usize
+fn fill_products(
+    starts: &mut [u32],
+    rows: &mut [u32],
+    vals: &mut [f64],
+    at: usize,
+    l: SocWrLayout,
+    bytes: &[u8],
+) -> usize
     requires { ⌜ Ready l (now bytes) ⌝ }
     requires { ⌜ at < 500000 ⌝ }
     ensures { λ x. ⌜ Columns (productColumns (netOf l (now (bytes .entry)))) (2 * l .k + l .n) (now (starts .entry)) (cellOut (now (rows .entry)) (now (vals .entry)) at) (now (starts .exit)) (cellOut (now (rows .exit)) (now (vals .exit)) x) ⌝ }
@@ -59,7 +80,14 @@ fn fill_products(starts: &mut [u32], rows: &mut [u32], vals: &mut [f64], at: usi
 }
 
 // The pf, pt, qf and qt columns.
-fn fill_flows(starts: &mut [u32], rows: &mut [u32], vals: &mut [f64], at: usize, l: SocWrLayout, bytes: &[u8]) -> usize
+fn fill_flows(
+    starts: &mut [u32],
+    rows: &mut [u32],
+    vals: &mut [f64],
+    at: usize,
+    l: SocWrLayout,
+    bytes: &[u8],
+) -> usize
     requires { ⌜ Ready l (now bytes) ⌝ }
     requires { ⌜ at < 700000 ⌝ }
     ensures { λ x. ⌜ Columns (flowColumns (netOf l (now (bytes .entry)))) (2 * l .k + l .n + 2 * l .m) (now (starts .entry)) (cellOut (now (rows .entry)) (now (vals .entry)) at) (now (starts .exit)) (cellOut (now (rows .exit)) (now (vals .exit)) x) ⌝ }
@@ -76,7 +104,14 @@ fn fill_flows(starts: &mut [u32], rows: &mut [u32], vals: &mut [f64], at: usize,
 }
 
 // The columns behind the bus columns.
-fn fill_branches(starts: &mut [u32], rows: &mut [u32], vals: &mut [f64], at: usize, l: SocWrLayout, bytes: &[u8]) -> usize
+fn fill_branches(
+    starts: &mut [u32],
+    rows: &mut [u32],
+    vals: &mut [f64],
+    at: usize,
+    l: SocWrLayout,
+    bytes: &[u8],
+) -> usize
     requires { ⌜ Ready l (now bytes) ⌝ }
     requires { ⌜ at < 300000 ⌝ }
     ensures { λ x. ⌜ Columns (branchColumns (netOf l (now (bytes .entry)))) (2 * l .k + l .n) (now (starts .entry)) (cellOut (now (rows .entry)) (now (vals .entry)) at) (now (starts .exit)) (cellOut (now (rows .exit)) (now (vals .exit)) x) ⌝ }
@@ -160,7 +195,13 @@ pub fn count_a(l: SocWrLayout, bytes: &[u8]) -> usize
 }
 
 // All of A.
-pub fn fill_a(starts: &mut [u32], rows: &mut [u32], vals: &mut [f64], l: SocWrLayout, bytes: &[u8]) -> usize
+pub fn fill_a(
+    starts: &mut [u32],
+    rows: &mut [u32],
+    vals: &mut [f64],
+    l: SocWrLayout,
+    bytes: &[u8],
+) -> usize
     requires { ⌜ Ready l (now bytes) ⌝ }
     requires { ⌜ 2 * l .k + l .n + 1 ≤ length (now starts) ⌝ }
     ensures { λ x. ⌜ Whole (matrix (netOf l (now (bytes .entry)))) (now (starts .entry)) (now (rows .entry)) (now (vals .entry)) (now (starts .exit)) (now (rows .exit)) (now (vals .exit)) x ⌝ }

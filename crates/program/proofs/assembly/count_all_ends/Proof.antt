@@ -1,53 +1,30 @@
+-- `program::assembly::count_all_ends` meets its contract. Assumes nothing.
+use borrow.Author.Needs.{needs}
+use Prim.Native.Nat.{ℕ, _≤_, _-_, _*_}
+use mathlib.Core.Path.{_≡_, refl, ap, _∙_}
+use native.Mathlib.Omega.{arith}
+use denote.Ref.{now}
+use Rattle.lists.specs.UpTo.{upTo, sum}
+use Rattle.lists.proofs.Sums.{sum-next}
+use Rattle.program.specs.Parts.{endCount}
 use Rattle.program.proofs.assembly.count_all_ends.Statement.{statement}
 use Rattle.program.proofs.assembly.count_all_ends.Tie as tie
-use Rattle.program.proofs.assembly.count_all_ends.Reads as reads
-use Rattle.program.proofs.assembly.count_all_ends.Lts as lts
-use Rattle.program.proofs.assembly.count_ends.Reads as count-ends-reads
 
 abbrev Inv-loop : tie.InvT-loop
-Inv-loop l bytes m count₀ e₀ count e = ?
+Inv-loop l bytes m count₀ e₀ count e = (e ≤ m) × (m ≡ l .m) × (count ≤ 8 * e) × (count ≡ sum e (endCount l bytes))
 
 abbrev μ-loop : tie.MeasureT-loop
-μ-loop l bytes m count₀ e₀ count e = ?
+μ-loop l bytes m count₀ e₀ count e = m - e
 
--- src/assembly.rt:142:5
 loop-holds : tie.Need-loop-holds Inv-loop μ-loop
-loop-holds c = ?
+unfolding upTo
+loop-holds c = (omega arith, refl, omega arith, refl)
 
--- src/assembly.rt:143:18
-count-ends-requires : tie.Need-count-ends-requires Inv-loop μ-loop
-count-ends-requires c κs = ?
-
--- src/assembly.rt:143:9
-add-count : tie.Need-add-count Inv-loop μ-loop
-add-count c = ?
-
--- src/assembly.rt:144:9
-add-e : tie.Need-add-e Inv-loop μ-loop
-add-e c = ?
-
--- src/assembly.rt:142:5
-loop-less : tie.Need-loop-less Inv-loop μ-loop
-loop-less c = ?
-
--- src/assembly.rt:142:5
 loop-again : tie.Need-loop-again Inv-loop μ-loop
-loop-again c = ?
+loop-again c = (omega arith, c .before .before .loop .inv .1, omega arith, omega (arith, c .before .before .loop .inv .3, c .count-ends .ensures .0, sum-next (c .before .before .loop .e) (endCount (c .before .before .before .before .args .l) (now (c .before .before .before .before .args .bytes)))))
 
--- src/assembly.rt:134:1
 returns : tie.Need-returns Inv-loop μ-loop
-returns c = ?
+returns c = let q : c .before .loop .e ≡ c .before .before .before .args .l .m = omega arith in (c .before .loop .inv .3 ∙ ap (λ (x : ℕ). sum x (endCount (c .before .before .before .args .l) (now (c .before .before .before .args .bytes)))) q, omega arith)
 
 pub count-all-ends-spec : {M : Type 1} → statement M
-count-all-ends-spec =
-    tie.close
-    (tie.spec
-    Inv-loop
-    μ-loop
-    loop-holds
-    count-ends-requires
-    add-count
-    add-e
-    loop-less
-    loop-again
-    returns)
+count-all-ends-spec = tie.close (tie.spec Inv-loop μ-loop loop-holds (λ c κs. search needs) (λ c. search needs) (λ c. search needs) (λ c. search needs) loop-again returns)

@@ -1,59 +1,34 @@
+-- `program::assembly::count_bus` meets its contract. Assumes nothing.
 use borrow.Author.Needs.{needs}
+use mathlib.Core.Path.{sym, ap, _∙_}
+use native.Mathlib.Omega.{arith}
+use lib.Ieee.{Float, neg, ne}
+use denote.Ref.{now}
+use Rattle.lists.specs.UpTo.{bit}
+use Rattle.rows.specs.Rows.{zero64}
+use Rattle.program.proofs.PartsOfA.{bus-counted}
 use Rattle.program.proofs.assembly.count_bus.Statement.{statement}
 use Rattle.program.proofs.assembly.count_bus.Tie as tie
-use Rattle.program.proofs.assembly.count_bus.Reads as reads
-use Rattle.program.proofs.assembly.count_bus.Lts as lts
-use Rattle.program.proofs.put.bit_nonzero.Reads as bit-nonzero-reads
-use Rattle.records.proofs.inner.bs.Reads as bs-reads
-use Rattle.records.proofs.inner.gs.Reads as gs-reads
-use Rattle.records.proofs.inner.voltage_bound_active.Reads as voltage-bound-active-reads
 
--- src/assembly.rt:96:9
-gs-requires : tie.Need-gs-requires
-gs-requires c κs = search needs
-
--- src/assembly.rt:97:9
-bs-requires : tie.Need-bs-requires
-bs-requires c κs = search needs
-
--- src/assembly.rt:98:15
-bit-nonzero-requires : tie.Need-bit-nonzero-requires
-bit-nonzero-requires c κs = search needs
-
--- src/assembly.rt:98:34
-bit-nonzero-requires-2 : tie.Need-bit-nonzero-requires-2
-bit-nonzero-requires-2 c κs = search needs
-
--- src/assembly.rt:98:15
-add-own : tie.Need-add-own
-add-own c = search needs
-
--- src/assembly.rt:99:8
-voltage-bound-active-requires : tie.Need-voltage-bound-active-requires
-voltage-bound-active-requires c κs = search needs
-
--- src/assembly.rt:100:16
-add-result : tie.Need-add-result
-add-result c = search needs
-
--- src/assembly.rt:100:9
 returns : tie.Need-returns
-returns c = ?
+returns c =
+    let a = c .before .before .before .before .before .before .before .args in
+    let b = now (a .bytes) in
+    let q = bus-counted (a .l) b (a .i) in
+    let t = ap bit (sym (c .before .voltage-bound-active .ensures) ∙ c .if1 .taken) in
+    let e1 = ap (λ (x : Float). bit (ne (neg x) zero64)) (c .before .before .before .before .before .gs .ensures) in
+    let e2 = ap (λ (x : Float). bit (ne x zero64)) (c .before .before .before .before .bs .ensures) in
+    (omega (arith, q, t, e1, e2, c .before .before .before .bit-nonzero .ensures .0, c .before .before .bit-nonzero2 .ensures .0), omega (arith, c .before .before .before .bit-nonzero .ensures .1, c .before .before .bit-nonzero2 .ensures .1))
 
--- src/assembly.rt:90:1
 returns-2 : tie.Need-returns-2
-returns-2 c = ?
+returns-2 c =
+    let a = c .before .before .before .before .before .before .before .args in
+    let b = now (a .bytes) in
+    let q = bus-counted (a .l) b (a .i) in
+    let t = ap bit (sym (c .before .voltage-bound-active .ensures) ∙ c .if1 .left) in
+    let e1 = ap (λ (x : Float). bit (ne (neg x) zero64)) (c .before .before .before .before .before .gs .ensures) in
+    let e2 = ap (λ (x : Float). bit (ne x zero64)) (c .before .before .before .before .bs .ensures) in
+    (omega (arith, q, t, e1, e2, c .before .before .before .bit-nonzero .ensures .0, c .before .before .bit-nonzero2 .ensures .0), omega (arith, c .before .before .before .bit-nonzero .ensures .1, c .before .before .bit-nonzero2 .ensures .1))
 
 pub count-bus-spec : {M : Type 1} → statement M
-count-bus-spec =
-    tie.close
-    (tie.spec
-    gs-requires
-    bs-requires
-    bit-nonzero-requires
-    bit-nonzero-requires-2
-    add-own
-    voltage-bound-active-requires
-    add-result
-    returns
-    returns-2)
+count-bus-spec = tie.close (tie.spec (λ c κs. search needs) (λ c κs. search needs) (λ c κs. search needs) (λ c κs. search needs) (λ c. search needs) (λ c κs. search needs) (λ c. search needs) returns returns-2)

@@ -1,53 +1,30 @@
+-- `program::assembly::count_own` meets its contract. Assumes nothing.
+use borrow.Author.Needs.{needs}
+use Prim.Native.Nat.{ℕ, _≤_, _-_, _*_}
+use mathlib.Core.Path.{_≡_, refl, ap, _∙_}
+use native.Mathlib.Omega.{arith}
+use denote.Ref.{now}
+use Rattle.lists.specs.UpTo.{upTo, sum}
+use Rattle.lists.proofs.Sums.{sum-next}
+use Rattle.program.specs.Parts.{busCount}
 use Rattle.program.proofs.assembly.count_own.Statement.{statement}
 use Rattle.program.proofs.assembly.count_own.Tie as tie
-use Rattle.program.proofs.assembly.count_own.Reads as reads
-use Rattle.program.proofs.assembly.count_own.Lts as lts
-use Rattle.program.proofs.assembly.count_bus.Reads as count-bus-reads
 
 abbrev Inv-loop : tie.InvT-loop
-Inv-loop l bytes n count₀ i₀ count i = ?
+Inv-loop l bytes n count₀ i₀ count i = (i ≤ n) × (n ≡ l .n) × (count ≤ 4 * i) × (count ≡ sum i (busCount l bytes))
 
 abbrev μ-loop : tie.MeasureT-loop
-μ-loop l bytes n count₀ i₀ count i = ?
+μ-loop l bytes n count₀ i₀ count i = n - i
 
--- src/assembly.rt:127:5
 loop-holds : tie.Need-loop-holds Inv-loop μ-loop
-loop-holds c = ?
+unfolding upTo
+loop-holds c = (omega arith, refl, omega arith, refl)
 
--- src/assembly.rt:128:18
-count-bus-requires : tie.Need-count-bus-requires Inv-loop μ-loop
-count-bus-requires c κs = ?
-
--- src/assembly.rt:128:9
-add-count : tie.Need-add-count Inv-loop μ-loop
-add-count c = ?
-
--- src/assembly.rt:129:9
-add-i : tie.Need-add-i Inv-loop μ-loop
-add-i c = ?
-
--- src/assembly.rt:127:5
-loop-less : tie.Need-loop-less Inv-loop μ-loop
-loop-less c = ?
-
--- src/assembly.rt:127:5
 loop-again : tie.Need-loop-again Inv-loop μ-loop
-loop-again c = ?
+loop-again c = (omega arith, c .before .before .loop .inv .1, omega arith, omega (arith, c .before .before .loop .inv .3, c .count-bus .ensures .0, sum-next (c .before .before .loop .i) (busCount (c .before .before .before .before .args .l) (now (c .before .before .before .before .args .bytes)))))
 
--- src/assembly.rt:119:1
 returns : tie.Need-returns Inv-loop μ-loop
-returns c = ?
+returns c = let e : c .before .loop .i ≡ c .before .before .before .args .l .n = omega arith in (c .before .loop .inv .3 ∙ ap (λ (x : ℕ). sum x (busCount (c .before .before .before .args .l) (now (c .before .before .before .args .bytes)))) e, omega arith)
 
 pub count-own-spec : {M : Type 1} → statement M
-count-own-spec =
-    tie.close
-    (tie.spec
-    Inv-loop
-    μ-loop
-    loop-holds
-    count-bus-requires
-    add-count
-    add-i
-    loop-less
-    loop-again
-    returns)
+count-own-spec = tie.close (tie.spec Inv-loop μ-loop loop-holds (λ c κs. search needs) (λ c. search needs) (λ c. search needs) (λ c. search needs) loop-again returns)

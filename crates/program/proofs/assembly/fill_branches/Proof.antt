@@ -1,48 +1,30 @@
+-- `program::assembly::fill_branches` meets its contract. Assumes nothing.
 use borrow.Author.Needs.{needs}
+use native.Mathlib.Omega.{arith}
+use lib.ListN.{length-append}
+use denote.Ref.{now}
+use Rattle.program.specs.Ready.{netOf}
+use Rattle.program.specs.Parts.{productColumns, flowColumns, branchColumns}
+use Rattle.program.proofs.Ends.{columns-then}
+use Rattle.program.proofs.PartsOfA.{products-length, flows-length}
 use Rattle.program.proofs.assembly.fill_branches.Statement.{statement}
 use Rattle.program.proofs.assembly.fill_branches.Tie as tie
-use Rattle.program.proofs.assembly.fill_branches.Reads as reads
-use Rattle.program.proofs.assembly.fill_branches.Lts as lts
-use Rattle.program.proofs.assembly.fill_flows.Reads as fill-flows-reads
-use Rattle.program.proofs.assembly.fill_products.Reads as fill-products-reads
-use Rattle.program.proofs.generators.put_costs.Reads as put-costs-reads
 
--- src/assembly.rt:84:9
-fill-products-requires : tie.Need-fill-products-requires
-fill-products-requires c κs = search needs
-
--- src/assembly.rt:85:9
 fill-flows-requires : tie.Need-fill-flows-requires
-fill-flows-requires c κs = search needs
+fill-flows-requires c κs = (c .before .before .before .before .before .before .before .before .before .before .before .before .before .before .before .before .before .pre .0, omega (arith, c .before .before .before .before .before .before .before .before .before .fill-products .ensures .1, c .before .before .before .before .before .before .before .before .before .before .before .before .before .before .before .before .before .pre .1, c .before .before .before .before .before .before .before .before .before .before .before .before .before .before .before .before .before .pre .0 .range .m-range))
 
--- src/assembly.rt:86:5
 put-costs-requires : tie.Need-put-costs-requires
-put-costs-requires c κs = search needs
+put-costs-requires c κs = (c .before .before .before .before .before .before .before .before .before .before .before .before .before .before .before .before .before .before .before .before .before .before .before .before .before .before .before .pre .0, omega (arith, c .before .before .before .before .before .before .before .before .before .before .before .before .before .before .before .before .before .before .before .fill-products .ensures .1, c .before .before .before .before .before .before .before .before .before .fill-flows .ensures .1, c .before .before .before .before .before .before .before .before .before .before .before .before .before .before .before .before .before .before .before .before .before .before .before .before .before .before .before .pre .1, c .before .before .before .before .before .before .before .before .before .before .before .before .before .before .before .before .before .before .before .before .before .before .before .before .before .before .before .pre .0 .range .m-range))
 
--- src/assembly.rt:79:1
-same-length : tie.Need-same-length
-same-length c = search needs
-
--- src/assembly.rt:79:1
-same-length-2 : tie.Need-same-length-2
-same-length-2 c = search needs
-
--- src/assembly.rt:79:1
-same-length-3 : tie.Need-same-length-3
-same-length-3 c = search needs
-
--- src/assembly.rt:79:1
 returns : tie.Need-returns
-returns c = ?
+unfolding branchColumns
+returns c =
+    let a = c .before .before .before .before .before .before .before .before .before .before .before .before .before .before .before .before .before .before .before .before .before .before .before .before .before .before .before .before .before .before .before .before .before .before .args in
+    let b = now (a .bytes) in
+    let lp = products-length (a .l) b in
+    let lf = flows-length (a .l) b in
+    columns-then (columns-then (c .before .before .before .before .before .before .before .before .before .before .before .before .before .before .before .before .before .before .before .before .before .before .before .before .before .before .fill-products .ensures .0) (omega (arith, lp)) (c .before .before .before .before .before .before .before .before .before .before .before .before .before .before .before .before .fill-flows .ensures .0))
+    (omega (arith, lp, lf, length-append (productColumns (netOf (a .l) b)) (flowColumns (netOf (a .l) b)))) (c .before .before .before .before .before .before .put-costs .ensures)
 
 pub fill-branches-spec : {M : Type 1} → statement M
-fill-branches-spec =
-    tie.close
-    (tie.spec
-    fill-products-requires
-    fill-flows-requires
-    put-costs-requires
-    same-length
-    same-length-2
-    same-length-3
-    returns)
+fill-branches-spec = tie.close (tie.spec (λ c κs. search needs) fill-flows-requires put-costs-requires (λ c. search needs) (λ c. search needs) (λ c. search needs) returns)

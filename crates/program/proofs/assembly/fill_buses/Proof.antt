@@ -1,71 +1,27 @@
+-- `program::assembly::fill_buses` meets its contract. Assumes nothing.
 use borrow.Author.Needs.{needs}
+use Prim.Native.Nat.{_*_}
+use native.Mathlib.Omega.{arith}
+use lib.ListN.{length-take, length-drop}
+use denote.Ref.{now}
+use Rattle.lists.proofs.Compressed.{joined-listed}
+use Rattle.rows.specs.Rows.{w}
+use Rattle.matrix.specs.Columns.{wCells}
+use Rattle.program.specs.Ready.{netOf}
+use Rattle.program.proofs.Fills.{listed-length}
+use Rattle.program.proofs.PartsOfA.{part-columns}
 use Rattle.program.proofs.assembly.fill_buses.Statement.{statement}
 use Rattle.program.proofs.assembly.fill_buses.Tie as tie
-use Rattle.program.proofs.assembly.fill_buses.Reads as reads
-use Rattle.program.proofs.assembly.fill_buses.Lts as lts
-use Rattle.program.proofs.buses.put_buses.Reads as put-buses-reads
 
--- src/assembly.rt:45:17
-mul-first : tie.Need-mul-first
-mul-first c = search needs
-
--- src/assembly.rt:45:17
-add-first : tie.Need-add-first
-add-first c = search needs
-
--- src/assembly.rt:46:15
-add-end : tie.Need-add-end
-add-end c = search needs
-
--- src/assembly.rt:47:15
-mul-put-buses : tie.Need-mul-put-buses
-mul-put-buses c = search needs
-
--- src/assembly.rt:47:15
-sub-put-buses : tie.Need-sub-put-buses
-sub-put-buses c = search needs
-
--- src/assembly.rt:47:15
-part-put-buses-start : tie.Need-part-put-buses-start
-part-put-buses-start c = search needs
-
--- src/assembly.rt:47:15
-part-put-buses-end : tie.Need-part-put-buses-end
-part-put-buses-end c = search needs
-
--- src/assembly.rt:47:5
 put-buses-requires : tie.Need-put-buses-requires
-put-buses-requires c κs = ?
+put-buses-requires c κs = (c .before .before .before .before .before .before .before .before .before .pre .0, (simp (length-take, length-drop) (omega (arith, c .before .before .before .before .before .before .before .before .before .pre .1)), omega (arith, c .before .before .before .before .before .before .before .before .before .pre .1)))
 
--- src/assembly.rt:39:1
-same-length : tie.Need-same-length
-same-length c = search needs
-
--- src/assembly.rt:39:1
-same-length-2 : tie.Need-same-length-2
-same-length-2 c = search needs
-
--- src/assembly.rt:39:1
-same-length-3 : tie.Need-same-length-3
-same-length-3 c = search needs
-
--- src/assembly.rt:39:1
 returns : tie.Need-returns
-returns c = ?
+returns c =
+    let a = c .before .before .before .before .before .before .before .before .before .before .before .before .before .before .before .before .args in
+    let G = netOf (a .l) (now (a .bytes)) in
+    let w = c .before .before .before .before .before .before .put-buses .ensures in
+    (part-columns {c = 2 * a .l .k} {n = a .l .n} (omega (arith, c .before .before .before .before .before .before .before .before .before .before .before .before .before .before .before .before .pre .1)) (listed-length (wCells G) (a .l .n)) (rw (joined-listed (a .l .n) (wCells G)) (w .0)) (w .1 .0), w .1 .1)
 
 pub fill-buses-spec : {M : Type 1} → statement M
-fill-buses-spec =
-    tie.close
-    (tie.spec
-    mul-first
-    add-first
-    add-end
-    mul-put-buses
-    sub-put-buses
-    part-put-buses-start
-    part-put-buses-end
-    put-buses-requires
-    same-length
-    same-length-2
-    same-length-3
-    returns)
+fill-buses-spec = tie.close (tie.spec (λ c. search needs) (λ c. search needs) (λ c. search needs) (λ c. search needs) (λ c. search needs) (λ c. search needs) (λ c. search needs) put-buses-requires (λ c. search needs) (λ c. search needs) (λ c. search needs) returns)

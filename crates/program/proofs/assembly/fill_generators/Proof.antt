@@ -1,36 +1,23 @@
+-- `program::assembly::fill_generators` meets its contract. Assumes nothing.
 use borrow.Author.Needs.{needs}
+use native.Mathlib.Omega.{arith}
+use denote.Ref.{now}
+use Rattle.matrix.specs.Columns.{pgCells}
+use Rattle.program.specs.Ready.{netOf}
+use Rattle.program.specs.Parts.{generatorColumns}
+use Rattle.program.proofs.Fills.{listed-length}
+use Rattle.program.proofs.Ends.{columns-then}
 use Rattle.program.proofs.assembly.fill_generators.Statement.{statement}
 use Rattle.program.proofs.assembly.fill_generators.Tie as tie
-use Rattle.program.proofs.assembly.fill_generators.Reads as reads
-use Rattle.program.proofs.assembly.fill_generators.Lts as lts
-use Rattle.program.proofs.generators.put_pgs.Reads as put-pgs-reads
-use Rattle.program.proofs.generators.put_qgs.Reads as put-qgs-reads
 
--- src/assembly.rt:34:9
-put-pgs-requires : tie.Need-put-pgs-requires
-put-pgs-requires c κs = search needs
-
--- src/assembly.rt:35:5
 put-qgs-requires : tie.Need-put-qgs-requires
-put-qgs-requires c κs = search needs
+put-qgs-requires c κs = (c .before .before .before .before .before .before .before .before .before .before .before .before .before .before .before .before .before .pre .0, omega (arith, c .before .before .before .before .before .before .before .before .before .put-pgs .ensures .1, c .before .before .before .before .before .before .before .before .before .before .before .before .before .before .before .before .before .pre .0 .range .k-range, c .before .before .before .before .before .before .before .before .before .before .before .before .before .before .before .before .before .pre .0 .range .s-range))
 
--- src/assembly.rt:28:1
-same-length : tie.Need-same-length
-same-length c = search needs
-
--- src/assembly.rt:28:1
-same-length-2 : tie.Need-same-length-2
-same-length-2 c = search needs
-
--- src/assembly.rt:28:1
-same-length-3 : tie.Need-same-length-3
-same-length-3 c = search needs
-
--- src/assembly.rt:28:1
 returns : tie.Need-returns
-returns c = ?
+unfolding generatorColumns
+returns c =
+    let a = c .before .before .before .before .before .before .before .before .before .before .before .before .before .before .before .before .before .before .before .before .before .before .before .before .args in
+    (columns-then (c .before .before .before .before .before .before .before .before .before .before .before .before .before .before .before .before .put-pgs .ensures .0) (omega (arith, listed-length (pgCells (netOf (a .l) (now (a .bytes)))) (a .l .k))) (c .before .before .before .before .before .before .put-qgs .ensures .0), omega (arith, c .before .before .before .before .before .before .before .before .before .before .before .before .before .before .before .before .put-pgs .ensures .1, c .before .before .before .before .before .before .put-qgs .ensures .1))
 
 pub fill-generators-spec : {M : Type 1} → statement M
-fill-generators-spec =
-    tie.close
-    (tie.spec put-pgs-requires put-qgs-requires same-length same-length-2 same-length-3 returns)
+fill-generators-spec = tie.close (tie.spec (λ c κs. search needs) put-qgs-requires (λ c. search needs) (λ c. search needs) (λ c. search needs) returns)

@@ -1,36 +1,23 @@
+-- `program::assembly::fill_products` meets its contract. Assumes nothing.
 use borrow.Author.Needs.{needs}
+use native.Mathlib.Omega.{arith}
+use denote.Ref.{now}
+use Rattle.matrix.specs.Columns.{wrCells}
+use Rattle.program.specs.Ready.{netOf}
+use Rattle.program.specs.Parts.{productColumns}
+use Rattle.program.proofs.Fills.{listed-length}
+use Rattle.program.proofs.Ends.{columns-then}
 use Rattle.program.proofs.assembly.fill_products.Statement.{statement}
 use Rattle.program.proofs.assembly.fill_products.Tie as tie
-use Rattle.program.proofs.assembly.fill_products.Reads as reads
-use Rattle.program.proofs.assembly.fill_products.Lts as lts
-use Rattle.program.proofs.branches.put_wis.Reads as put-wis-reads
-use Rattle.program.proofs.branches.put_wrs.Reads as put-wrs-reads
 
--- src/assembly.rt:57:9
-put-wrs-requires : tie.Need-put-wrs-requires
-put-wrs-requires c κs = search needs
-
--- src/assembly.rt:58:5
 put-wis-requires : tie.Need-put-wis-requires
-put-wis-requires c κs = search needs
+put-wis-requires c κs = (c .before .before .before .before .before .before .before .before .before .before .before .before .before .before .before .before .before .pre .0, omega (arith, c .before .before .before .before .before .before .before .before .before .put-wrs .ensures .1, c .before .before .before .before .before .before .before .before .before .before .before .before .before .before .before .before .before .pre .1, c .before .before .before .before .before .before .before .before .before .before .before .before .before .before .before .before .before .pre .0 .range .m-range))
 
--- src/assembly.rt:51:1
-same-length : tie.Need-same-length
-same-length c = search needs
-
--- src/assembly.rt:51:1
-same-length-2 : tie.Need-same-length-2
-same-length-2 c = search needs
-
--- src/assembly.rt:51:1
-same-length-3 : tie.Need-same-length-3
-same-length-3 c = search needs
-
--- src/assembly.rt:51:1
 returns : tie.Need-returns
-returns c = ?
+unfolding productColumns
+returns c =
+    let a = c .before .before .before .before .before .before .before .before .before .before .before .before .before .before .before .before .before .before .before .before .before .before .before .before .args in
+    (columns-then (c .before .before .before .before .before .before .before .before .before .before .before .before .before .before .before .before .put-wrs .ensures .0) (omega (arith, listed-length (wrCells (netOf (a .l) (now (a .bytes)))) (a .l .m))) (c .before .before .before .before .before .before .put-wis .ensures .0), omega (arith, c .before .before .before .before .before .before .before .before .before .before .before .before .before .before .before .before .put-wrs .ensures .1, c .before .before .before .before .before .before .put-wis .ensures .1))
 
 pub fill-products-spec : {M : Type 1} → statement M
-fill-products-spec =
-    tie.close
-    (tie.spec put-wrs-requires put-wis-requires same-length same-length-2 same-length-3 returns)
+fill-products-spec = tie.close (tie.spec (λ c κs. search needs) put-wis-requires (λ c. search needs) (λ c. search needs) (λ c. search needs) returns)

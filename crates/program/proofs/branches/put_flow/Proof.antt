@@ -22,7 +22,7 @@ balance-row-requires c κs = (c .before .before .before .before .before .before 
 
 returns : tie.Need-returns
 unfolding flowCells flow
-returns c = 
+returns c =
     let a = c .before .before .before .before .before .before .before .before .before .before .before .before .before .before .before .before .before .args in
     let b = now (a .bytes) in
     let G = netOf (a .l) b in

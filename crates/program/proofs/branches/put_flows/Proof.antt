@@ -36,11 +36,16 @@ add-rank : tie.Need-add-rank Inv-loop μ-loop
 add-rank c = omega (arith, c .bit .ensures, bit-le (c .before .thermal-limit-active .result), c .before .before .before .before .before .before .before .before .before .before .before .before .before .before .before .loop .inv .3, c .before .before .before .before .before .before .before .before .before .before .before .before .before .before .before .before .before .before .before .before .pre .0 .range .m-range)
 
 loop-again : tie.Need-loop-again Inv-loop μ-loop
-loop-again c = 
+loop-again c =
     let a = c .before .before .before .before .before .before .before .before .before .before .before .before .before .before .before .before .before .before .before .before .args in
-    let G = netOf (a .l) (now (a .bytes)) in
-    (omega arith, c .before .before .before .before .before .before .before .before .before .before .before .before .before .before .before .loop .inv .1, omega (arith, c .bit .ensures, ap bit (c .before .thermal-limit-active .ensures), c .before .before .before .before .before .before .before .before .before .before .before .before .before .before .before .loop .inv .2, sum-next (c .before .before .before .before .before .before .before .before .before .before .before .before .before .before .before .loop .e) (λ i. bit (G .limited i))), omega (arith, c .bit .ensures, bit-le (c .before .thermal-limit-active .result), c .before .before .before .before .before .before .before .before .before .before .before .before .before .before .before .loop .inv .3), omega (arith, c .before .before .before .before .before .before .before .before .before .before .before .put-flow .ensures .1, c .before .before .before .before .before .before .before .before .before .before .before .before .before .before .before .loop .inv .4),
-    columns-more _ (c .before .before .before .before .before .before .before .before .before .before .before .before .before .before .before .loop .inv .5) (c .before .before .before .before .before .before .before .before .before .before .before .put-flow .ensures .0) (c .before .before .before .before .before .store-u32 .ensures) (omega arith))
+    let G = netOf (a .l) (now (a .bytes)) in (
+      omega arith,
+      c .before .before .before .before .before .before .before .before .before .before .before .before .before .before .before .loop .inv .1,
+      omega (arith, c .bit .ensures, ap bit (c .before .thermal-limit-active .ensures), c .before .before .before .before .before .before .before .before .before .before .before .before .before .before .before .loop .inv .2, sum-next (c .before .before .before .before .before .before .before .before .before .before .before .before .before .before .before .loop .e) (λ i. bit (G .limited i))),
+      omega (arith, c .bit .ensures, bit-le (c .before .thermal-limit-active .result), c .before .before .before .before .before .before .before .before .before .before .before .before .before .before .before .loop .inv .3),
+      omega (arith, c .before .before .before .before .before .before .before .before .before .before .before .put-flow .ensures .1, c .before .before .before .before .before .before .before .before .before .before .before .before .before .before .before .loop .inv .4),
+      columns-more _ (c .before .before .before .before .before .before .before .before .before .before .before .before .before .before .before .loop .inv .5) (c .before .before .before .before .before .before .before .before .before .before .before .put-flow .ensures .0) (c .before .before .before .before .before .store-u32 .ensures) (omega arith),
+    )
 
 same-length : tie.Need-same-length Inv-loop μ-loop
 same-length c = columns-starts (c .before .loop .inv .5)

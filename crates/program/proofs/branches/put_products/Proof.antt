@@ -17,7 +17,7 @@ put-nonzero-requires-4 c κs = omega (arith, c .before .before .before .before .
 
 returns : tie.Need-returns
 unfolding products
-returns c = 
+returns c =
     (then (then (then (rw (c .before .before .before .before .before .before .before .before .before .before .before .before .before .before .before .before .before .before .before .before .before .before .before .before .before .before .before .before .before .before .before .r-ohm-pf .ensures) at (c .before .before .before .before .before .before .before .before .before .before .before .before .before .before .before .before .before .before .before .before .before .before .before .before .before .put-nonzero .ensures .0)) (rw (c .before .before .before .before .before .before .before .before .before .before .before .before .before .before .before .before .before .before .before .before .before .before .before .before .before .before .before .before .before .before .r-ohm-qf .ensures) at (c .before .before .before .before .before .before .before .before .before .before .before .before .before .before .before .before .before .before .put-nonzero2 .ensures .0))) (rw (c .before .before .before .before .before .before .before .before .before .before .before .before .before .before .before .before .before .before .before .before .before .before .before .before .before .before .before .before .before .r-ohm-pt .ensures) at (c .before .before .before .before .before .before .before .before .before .before .before .put-nonzero3 .ensures .0))) (rw (c .before .before .before .before .before .before .before .before .before .before .before .before .before .before .before .before .before .before .before .before .before .before .before .before .before .before .before .before .r-ohm-qt .ensures) at (c .before .before .before .before .put-nonzero4 .ensures .0)), omega (arith, c .before .before .before .before .before .before .before .before .before .before .before .before .before .before .before .before .before .before .before .before .before .before .before .before .before .put-nonzero .ensures .1, c .before .before .before .before .before .before .before .before .before .before .before .before .before .before .before .before .before .before .put-nonzero2 .ensures .1, c .before .before .before .before .before .before .before .before .before .before .before .put-nonzero3 .ensures .1, c .before .before .before .before .put-nonzero4 .ensures .1))
 
 pub put-products-spec : {M : Type 1} → statement M

@@ -31,7 +31,7 @@ unfolding upTo
 loop-holds c = (omega arith, refl, c .before .before .before .segment-base .ensures, refl, omega arith, omega arith, columns-start (costTurn (netOf (c .before .before .before .before .before .before .before .before .args .l) (now (c .before .before .before .before .before .before .before .before .args .bytes)))))
 
 add-put-cost : tie.Need-add-put-cost Inv-loop μ-loop
-add-put-cost c = 
+add-put-cost c =
     let a = c .before .before .before .before .before .before .before .before .before .before .before .before .before .before .before .before .args in
     let b = now (a .bytes) in
     let r = c .before .before .before .before .before .before .before .before .before .before .before .before .before .before .before .before .pre .0 in
@@ -39,17 +39,18 @@ add-put-cost c =
     omega (arith, h, c .before .before .before .before .before .before .before .loop .inv .2, c .before .before .before .before .before .before .before .loop .inv .3, r .range .n-range, r .range .m-range, r .range .k-range, r .range .s-range)
 
 put-cost-requires : tie.Need-put-cost-requires Inv-loop μ-loop
-put-cost-requires c κs = 
+put-cost-requires c κs =
     let a = c .before .before .before .before .before .before .before .before .before .before .before .before .before .before .before .before .args in
     let b = now (a .bytes) in
     let r = c .before .before .before .before .before .before .before .before .before .before .before .before .before .before .before .before .pre .0 in
     let h = segments-next (a .l) b r (c .before .before .before .before .before .before .before .loop .g) (omega arith) in
-    let u = each-le (c .before .before .before .before .before .before .before .loop .g) 1 (costTurn (netOf (a .l) b)) (λ i. turn-le (a .l) b i) in
-    ((omega (arith, h, c .before .before .before .before .before .before .before .loop .inv .3, c .before .before .before .before .before .before .before .loop .inv .4, r .accepted .few-segments, c .before .before .before .before .before .before .before .before .before .before .before .before .before .before .before .before .pre .1), omega (arith, h, c .before .before .before .segments .ensures .0, r .accepted .few-segments), omega (arith, h, c .before .before .before .before .before .before .before .loop .inv .2, c .before .before .before .before .before .before .before .loop .inv .3, r .range .n-range, r .range .m-range, r .range .k-range, r .range .s-range)),
-    omega (arith, u, c .before .before .before .before .before .before .before .loop .inv .5, r .range .n-range, r .range .m-range, r .range .k-range))
+    let u = each-le (c .before .before .before .before .before .before .before .loop .g) 1 (costTurn (netOf (a .l) b)) (λ i. turn-le (a .l) b i) in (
+      (omega (arith, h, c .before .before .before .before .before .before .before .loop .inv .3, c .before .before .before .before .before .before .before .loop .inv .4, r .accepted .few-segments, c .before .before .before .before .before .before .before .before .before .before .before .before .before .before .before .before .pre .1), omega (arith, h, c .before .before .before .segments .ensures .0, r .accepted .few-segments), omega (arith, h, c .before .before .before .before .before .before .before .loop .inv .2, c .before .before .before .before .before .before .before .loop .inv .3, r .range .n-range, r .range .m-range, r .range .k-range, r .range .s-range)),
+      omega (arith, u, c .before .before .before .before .before .before .before .loop .inv .5, r .range .n-range, r .range .m-range, r .range .k-range),
+    )
 
 add-c-3 : tie.Need-add-c-3 Inv-loop μ-loop
-add-c-3 c = 
+add-c-3 c =
     let a = c .before .before .before .before .before .before .before .before .before .before .before .before .before .before .before .before .before .before .before .before .before .before .before .before .args in
     let b = now (a .bytes) in
     let r = c .before .before .before .before .before .before .before .before .before .before .before .before .before .before .before .before .before .before .before .before .before .before .before .before .pre .0 in
@@ -58,7 +59,7 @@ add-c-3 c =
     omega (arith, u, c .before .before .before .before .before .before .before .before .before .before .before .before .before .before .before .loop .inv .5, c .bit .ensures, bit-le (c .before .before .before .before .before .before .before .before .before .before .before .before .piecewise .result), r .range .n-range, r .range .m-range, r .range .k-range)
 
 add-seg : tie.Need-add-seg Inv-loop μ-loop
-add-seg c = 
+add-seg c =
     let a = c .before .before .before .before .before .before .before .before .before .before .before .before .before .before .before .before .before .before .before .before .before .before .before .before .args in
     let b = now (a .bytes) in
     let r = c .before .before .before .before .before .before .before .before .before .before .before .before .before .before .before .before .before .before .before .before .before .before .before .before .pre .0 in
@@ -66,7 +67,7 @@ add-seg c =
     omega (arith, h, c .before .before .before .before .before .before .before .before .before .before .before .segments .ensures .0, c .before .before .before .before .before .before .before .before .before .before .before .before .before .before .before .loop .inv .3, r .accepted .few-segments)
 
 loop-again : tie.Need-loop-again Inv-loop μ-loop
-loop-again c = 
+loop-again c =
     let a = c .before .before .before .before .before .before .before .before .before .before .before .before .before .before .before .before .before .before .before .before .before .before .before .before .args in
     let b = now (a .bytes) in
     let r = c .before .before .before .before .before .before .before .before .before .before .before .before .before .before .before .before .before .before .before .before .before .before .before .before .pre .0 in
@@ -75,10 +76,15 @@ loop-again c =
     let p : c .before .before .before .before .before .before .before .before .before .before .before .before .piecewise .result ≡ netOf (a .l) b .piecewise (c .before .before .before .before .before .before .before .before .before .before .before .before .before .before .before .loop .g) = c .before .before .before .before .before .before .before .before .before .before .before .before .piecewise .ensures in
     let q : c .before .before .before .before .before .before .before .before .before .before .before .before .before .before .before .before .before .before .before .segment-base .result + c .before .before .before .before .before .before .before .before .before .before .before .before .before .before .before .loop .seg ≡ before (layoutRows (a .l)) 14 + sum (c .before .before .before .before .before .before .before .before .before .before .before .before .before .before .before .loop .g) (netOf (a .l) b .segments) = omega (arith, c .before .before .before .before .before .before .before .before .before .before .before .before .before .before .before .loop .inv .2, c .before .before .before .before .before .before .before .before .before .before .before .before .before .before .before .loop .inv .3) in
     let e = costs-are (a .l) b (c .before .before .before .before .before .before .before .before .before .before .before .before .before .before .before .loop .g) q n in
-    let w = rw (p, e) at (c .before .before .before .before .before .before .before .put-cost .ensures .0) in
-    (omega arith, c .before .before .before .before .before .before .before .before .before .before .before .before .before .before .before .loop .inv .1, c .before .before .before .before .before .before .before .before .before .before .before .before .before .before .before .loop .inv .2, omega (arith, n, c .before .before .before .before .before .before .before .before .before .before .before .before .before .before .before .loop .inv .3, sum-next (c .before .before .before .before .before .before .before .before .before .before .before .before .before .before .before .loop .g) (netOf (a .l) b .segments)), omega (arith, c .before .before .before .before .before .before .before .put-cost .ensures .1, c .before .before .before .before .before .before .before .before .before .before .before .before .before .before .before .loop .inv .4),
-    omega (arith, c .before .before .before .before .before .before .before .before .before .before .before .before .before .before .before .loop .inv .5, c .bit .ensures, ap bit p, turn-length (a .l) b (c .before .before .before .before .before .before .before .before .before .before .before .before .before .before .before .loop .g), ap length (each-more (costTurn (netOf (a .l) b)) (c .before .before .before .before .before .before .before .before .before .before .before .before .before .before .before .loop .g)), length-append (each (c .before .before .before .before .before .before .before .before .before .before .before .before .before .before .before .loop .g) (costTurn (netOf (a .l) b))) (costTurn (netOf (a .l) b) (c .before .before .before .before .before .before .before .before .before .before .before .before .before .before .before .loop .g))),
-    turned (a .l) b (c .before .before .before .before .before .before .before .before .before .before .before .before .before .before .before .loop .g) (c .before .before .before .before .before .before .before .before .before .before .before .before .before .before .before .loop .inv .6) (c .before .before .before .before .before .before .before .before .before .before .before .before .before .before .before .loop .inv .5) w)
+    let w = rw (p, e) at (c .before .before .before .before .before .before .before .put-cost .ensures .0) in (
+      omega arith,
+      c .before .before .before .before .before .before .before .before .before .before .before .before .before .before .before .loop .inv .1,
+      c .before .before .before .before .before .before .before .before .before .before .before .before .before .before .before .loop .inv .2,
+      omega (arith, n, c .before .before .before .before .before .before .before .before .before .before .before .before .before .before .before .loop .inv .3, sum-next (c .before .before .before .before .before .before .before .before .before .before .before .before .before .before .before .loop .g) (netOf (a .l) b .segments)),
+      omega (arith, c .before .before .before .before .before .before .before .put-cost .ensures .1, c .before .before .before .before .before .before .before .before .before .before .before .before .before .before .before .loop .inv .4),
+      omega (arith, c .before .before .before .before .before .before .before .before .before .before .before .before .before .before .before .loop .inv .5, c .bit .ensures, ap bit p, turn-length (a .l) b (c .before .before .before .before .before .before .before .before .before .before .before .before .before .before .before .loop .g), ap length (each-more (costTurn (netOf (a .l) b)) (c .before .before .before .before .before .before .before .before .before .before .before .before .before .before .before .loop .g)), length-append (each (c .before .before .before .before .before .before .before .before .before .before .before .before .before .before .before .loop .g) (costTurn (netOf (a .l) b))) (costTurn (netOf (a .l) b) (c .before .before .before .before .before .before .before .before .before .before .before .before .before .before .before .loop .g))),
+      turned (a .l) b (c .before .before .before .before .before .before .before .before .before .before .before .before .before .before .before .loop .g) (c .before .before .before .before .before .before .before .before .before .before .before .before .before .before .before .loop .inv .6) (c .before .before .before .before .before .before .before .before .before .before .before .before .before .before .before .loop .inv .5) w,
+    )
 
 same-length : tie.Need-same-length Inv-loop μ-loop
 same-length c = columns-starts (c .before .loop .inv .6)

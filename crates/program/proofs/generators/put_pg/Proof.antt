@@ -22,7 +22,7 @@ add-put-slopes : tie.Need-add-put-slopes
 add-put-slopes c = omega (arith, c .before .before .before .before .before .before .before .before .before .segment-base .ensures, segments-next (c .before .before .before .before .before .before .before .before .before .before .before .before .before .before .before .args .l) (now (c .before .before .before .before .before .before .before .before .before .before .before .before .before .before .before .args .bytes)) (c .before .before .before .before .before .before .before .before .before .before .before .before .before .before .before .pre .0) (c .before .before .before .before .before .before .before .before .before .before .before .before .before .before .before .args .g) (c .before .before .before .before .before .before .before .before .before .before .before .before .before .before .before .pre .1 .0 .0), c .before .before .before .before .before .before .before .before .before .before .before .before .before .before .before .pre .1 .1, c .before .before .before .before .before .before .before .before .before .before .before .before .before .before .before .pre .0 .range .n-range, c .before .before .before .before .before .before .before .before .before .before .before .before .before .before .before .pre .0 .range .m-range, c .before .before .before .before .before .before .before .before .before .before .before .before .before .before .before .pre .0 .range .k-range, c .before .before .before .before .before .before .before .before .before .before .before .before .before .before .before .pre .0 .range .s-range)
 
 put-slopes-requires : tie.Need-put-slopes-requires
-put-slopes-requires c κs = 
+put-slopes-requires c κs =
     let a = c .before .before .before .before .before .before .before .before .before .before .before .before .before .before .before .args in
     let r = c .before .before .before .before .before .before .before .before .before .before .before .before .before .before .before .pre .0 in
     let h = segments-next (a .l) (now (a .bytes)) r (a .g) (c .before .before .before .before .before .before .before .before .before .before .before .before .before .before .before .pre .1 .0 .0) in
@@ -32,7 +32,7 @@ put-slopes-requires c κs =
 
 returns : tie.Need-returns
 unfolding pgCells pgHead
-returns c = 
+returns c =
     let a = c .before .before .before .before .before .before .before .before .before .before .before .before .before .before .before .before .before .before .before .before .args in
     let b = now (a .bytes) in
     let s = c .before .before .before .before .before .before .before .before .before .before .before .before .before .before .before .before .before .before .before .before .pre .1 .1 in

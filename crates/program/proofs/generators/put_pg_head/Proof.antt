@@ -18,7 +18,7 @@ r-pbal-requires c κs = (c .before .before .before .before .before .before .pre 
 
 returns : tie.Need-returns
 unfolding pgHead bounds
-returns c = 
+returns c =
     let a = c .before .before .before .before .before .before .before .before .before .before .before .before .before .before .before .before .before .before .before .before .before .before .before .args in
     let q : c .before .before .before .before .before .before .before .before .before .before .before .before .before .before .before .before .r-pbal .result ≡ layoutRow (a .l) (Pbal (netOf (a .l) (now (a .bytes)) .genBus (a .g))) = c .before .before .before .before .before .before .before .before .before .before .before .before .before .before .before .before .r-pbal .ensures ∙ ap (λ (i : ℕ). layoutRow (a .l) (Pbal i)) (c .before .before .before .before .before .before .before .before .before .before .before .before .before .before .before .before .before .before .gen-bus .ensures) in
     (then (rw q at (c .before .before .before .before .before .before .before .before .before .before .before .put .ensures .0)) (rw (c .before .before .before .before .before .before .before .before .before .before .before .before .before .before .before .before .before .generator-capability-active .ensures, c .before .before .before .before .before .before .before .before .before .before .before .before .before .before .before .r-pgub .ensures, c .before .before .before .before .before .before .before .before .before .before .before .before .before .before .r-pglb .ensures) at (c .before .before .before .before .put-bounds .ensures .0)), omega arith)

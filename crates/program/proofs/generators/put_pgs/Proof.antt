@@ -29,7 +29,7 @@ unfolding upTo
 loop-holds c = (omega arith, refl, refl, refl, omega arith, columns-none (pgCells (netOf (c .before .before .before .before .before .args .l) (now (c .before .before .before .before .before .args .bytes)))))
 
 put-pg-requires : tie.Need-put-pg-requires Inv-loop μ-loop
-put-pg-requires c κs = 
+put-pg-requires c κs =
     let a = c .before .before .before .before .before .before .before .before .before .before .args in
     let b = now (a .bytes) in
     let r = c .before .before .before .before .before .before .before .before .before .before .pre .0 in
@@ -38,7 +38,7 @@ put-pg-requires c κs =
     (r, ((omega arith, omega (arith, h, f, c .before .before .before .before .loop .inv .3, c .before .before .before .before .loop .inv .4, r .accepted .few-segments, r .accepted .few-generators)), (c .before .before .before .before .loop .inv .3, c .before .before .segments .ensures .0 ∙ f)))
 
 cast-store-u32 : tie.Need-cast-store-u32 Inv-loop μ-loop
-cast-store-u32 c = 
+cast-store-u32 c =
     let a = c .before .before .before .before .before .before .before .before .before .before .before .before .before .before .before .before .args in
     let b = now (a .bytes) in
     let r = c .before .before .before .before .before .before .before .before .before .before .before .before .before .before .before .before .pre .0 in
@@ -47,7 +47,7 @@ cast-store-u32 c =
     omega (arith, h, f, c .before .before .before .before .before .before .before .before .segments .ensures .0, c .before .before .before .before .before .put-pg .ensures .1, c .before .before .before .before .before .before .before .before .before .before .loop .inv .3, c .before .before .before .before .before .before .before .before .before .before .loop .inv .4, r .accepted .few-segments, r .accepted .few-generators)
 
 add-seg : tie.Need-add-seg Inv-loop μ-loop
-add-seg c = 
+add-seg c =
     let a = c .before .before .before .before .before .before .before .before .before .before .before .before .before .before .before .before .before .before .before .args in
     let b = now (a .bytes) in
     let r = c .before .before .before .before .before .before .before .before .before .before .before .before .before .before .before .before .before .before .before .pre .0 in
@@ -56,14 +56,19 @@ add-seg c =
     omega (arith, h, f, c .before .before .before .before .before .before .before .before .before .before .before .segments .ensures .0, c .before .before .before .before .before .before .before .before .before .before .before .before .before .loop .inv .3, r .accepted .few-segments)
 
 loop-again : tie.Need-loop-again Inv-loop μ-loop
-loop-again c = 
+loop-again c =
     let a = c .before .before .before .before .before .before .before .before .before .before .before .before .before .before .before .before .before .before .before .args in
     let b = now (a .bytes) in
     let r = c .before .before .before .before .before .before .before .before .before .before .before .before .before .before .before .before .before .before .before .pre .0 in
     let h = segments-next (a .l) b r (c .before .before .before .before .before .before .before .before .before .before .before .before .before .loop .g) (omega arith) in
-    let f = ap (λ (x : ℕ). segmentsOf b (x + c .before .before .before .before .before .before .before .before .before .before .before .before .before .loop .g)) (c .before .before .before .before .before .before .before .before .before .before .before .before .before .loop .inv .2) in
-    (omega arith, c .before .before .before .before .before .before .before .before .before .before .before .before .before .loop .inv .1, c .before .before .before .before .before .before .before .before .before .before .before .before .before .loop .inv .2, omega (arith, f, c .before .before .before .before .before .before .before .before .before .before .before .segments .ensures .0, c .before .before .before .before .before .before .before .before .before .before .before .before .before .loop .inv .3, sum-next (c .before .before .before .before .before .before .before .before .before .before .before .before .before .loop .g) (netOf (a .l) b .segments)), omega (arith, c .before .before .before .before .before .before .before .before .put-pg .ensures .1, c .before .before .before .before .before .before .before .before .before .before .before .before .before .loop .inv .4),
-    columns-more _ (c .before .before .before .before .before .before .before .before .before .before .before .before .before .loop .inv .5) (c .before .before .before .before .before .before .before .before .put-pg .ensures .0) (c .before .before .store-u32 .ensures) (omega arith))
+    let f = ap (λ (x : ℕ). segmentsOf b (x + c .before .before .before .before .before .before .before .before .before .before .before .before .before .loop .g)) (c .before .before .before .before .before .before .before .before .before .before .before .before .before .loop .inv .2) in (
+      omega arith,
+      c .before .before .before .before .before .before .before .before .before .before .before .before .before .loop .inv .1,
+      c .before .before .before .before .before .before .before .before .before .before .before .before .before .loop .inv .2,
+      omega (arith, f, c .before .before .before .before .before .before .before .before .before .before .before .segments .ensures .0, c .before .before .before .before .before .before .before .before .before .before .before .before .before .loop .inv .3, sum-next (c .before .before .before .before .before .before .before .before .before .before .before .before .before .loop .g) (netOf (a .l) b .segments)),
+      omega (arith, c .before .before .before .before .before .before .before .before .put-pg .ensures .1, c .before .before .before .before .before .before .before .before .before .before .before .before .before .loop .inv .4),
+      columns-more _ (c .before .before .before .before .before .before .before .before .before .before .before .before .before .loop .inv .5) (c .before .before .before .before .before .before .before .before .put-pg .ensures .0) (c .before .before .store-u32 .ensures) (omega arith),
+    )
 
 same-length : tie.Need-same-length Inv-loop μ-loop
 same-length c = columns-starts (c .before .loop .inv .5)

@@ -19,7 +19,7 @@ r-qbal-requires c κs = (c .before .before .before .before .before .before .pre 
 
 returns : tie.Need-returns
 unfolding qgCells bounds
-returns c = 
+returns c =
     let a = c .before .before .before .before .before .before .before .before .before .before .before .before .before .before .before .before .before .before .before .before .before .before .before .args in
     let q : c .before .before .before .before .before .before .before .before .before .before .before .before .before .before .before .before .r-qbal .result ≡ layoutRow (a .l) (Qbal (netOf (a .l) (now (a .bytes)) .genBus (a .g))) = c .before .before .before .before .before .before .before .before .before .before .before .before .before .before .before .before .r-qbal .ensures ∙ ap (λ (i : ℕ). layoutRow (a .l) (Qbal i)) (c .before .before .before .before .before .before .before .before .before .before .before .before .before .before .before .before .before .before .gen-bus .ensures) in
     (then (rw q at (c .before .before .before .before .before .before .before .before .before .before .before .put .ensures .0)) (rw (c .before .before .before .before .before .before .before .before .before .before .before .before .before .before .before .before .before .generator-capability-active .ensures, c .before .before .before .before .before .before .before .before .before .before .before .before .before .before .before .r-qgub .ensures, c .before .before .before .before .before .before .before .before .before .before .before .before .before .before .r-qglb .ensures) at (c .before .before .before .before .put-bounds .ensures .0)), omega arith)
