@@ -10,26 +10,16 @@ use Rattle.records.specs.AcNetwork.{AcNetwork}
 use Rattle.numbering.specs.Numbering.{nvar, ncon, rowNumber}
 use Rattle.rows.specs.Program.{slack}
 use Rattle.kkt.specs.Kkt.{kktOf, kkt}
-use Rattle.records.specs.Network.{networkOf, Accepted}
-use Rattle.kkt.specs.Demand3.{Numbered, Places, Demand3}
+use Rattle.records.specs.Network.{networkOf}
+use Rattle.kkt.specs.Demand3.{Places, Demand3}
 use Rattle.records.specs.Check.{checkOf}
 use Rattle.refusals.specs.declared.Checked.the-variants as Checked
 use Rattle.numbering.specs.declared.RowName.{RowName}
 use Rattle.records.proofs.Laws.{accepted}
 use Rattle.records.proofs.Sound.{Sound, sound}
-use Rattle.numbering.proofs.Names.{column-stands, column-only, row-stands, row-only, cones-add}
+use Rattle.numbering.proofs.Theorem.{numbered}
 use Rattle.kkt.proofs.KktCount.{kkt-count}
 use Rattle.kkt.proofs.KktPlaces.{kkt-once, kkt-twice, kkt-inside}
-
-pub numbered : (G : AcNetwork Float) → Sound G → Numbered G
-numbered G h =
-    record {
-      column-stands = column-stands G;
-      column-only = column-only G;
-      row-stands = row-stands G;
-      row-only = row-only G;
-      cones-add = cones-add G (h .added);
-    }
 
 -- whatever the slacks and the duals are
 places : (G : AcNetwork Float) → Sound G → (s z : RowName → Float) → Places G (kktOf G s z)
@@ -45,14 +35,11 @@ pub kkt-places : (G : AcNetwork Float) → Sound G → (x z : List Float) → Pl
 unfolding kkt
 kkt-places G h x z = places G h (slack G x) (λ r. getD z (rowNumber G r) nan)
 
-pub demand3 : (n m k s : ℕ) (bytes : List ℕ) (x z : List Float) → Accepted n m k s bytes
+-- "In demand 3 an accepted network is counts and records that pass the record check (1 to 5 and the sum)"
+pub demand3 : (n m k s : ℕ) (bytes : List ℕ) (x z : List Float) → checkOf n m k s bytes ≡ Checked.Accepted
     → length x ≡ nvar (networkOf n m k s bytes) → length z ≡ ncon (networkOf n m k s bytes) → Demand3 n m k s bytes x z
-demand3 n m k s bytes x z a hx hz =
-    let G = networkOf n m k s bytes in
-    let h = sound n m k s bytes a in
-    record { numbered = numbered G h; places = kkt-places G h x z }
-
--- the same of counts and records that pass the check
-pub demand3-checked : (n m k s : ℕ) (bytes : List ℕ) (x z : List Float) → checkOf n m k s bytes ≡ Checked.Accepted
-    → length x ≡ nvar (networkOf n m k s bytes) → length z ≡ ncon (networkOf n m k s bytes) → Demand3 n m k s bytes x z
-demand3-checked n m k s bytes x z h = demand3 n m k s bytes x z (accepted n m k s bytes h)
+demand3 n m k s bytes x z h hx hz =
+    record {
+      numbered = numbered n m k s bytes h;
+      places = kkt-places (networkOf n m k s bytes) (sound n m k s bytes (accepted n m k s bytes h)) x z;
+    }

@@ -1,21 +1,23 @@
 -- Which layouts are in range, and what the layout of a network gives of its numbering. Assumes nothing.
-use Prim.Native.Nat.{ℕ, _+_}
+use Prim.Native.Nat.{ℕ, _+_, _≤_, _<_}
 use mathlib.Core.Path.{_≡_, refl}
+use mathlib.Core.Bool.{Bool, true}
 use mathlib.Core.List.{List}
 use native.Mathlib.Omega.{arith}
 use borrow.Author.Tests.{leb-true}
 use lib.Ieee.{Float}
-use Rattle.lists.specs.UpTo.{sum}
-use Rattle.lists.proofs.Sums.{count-le}
+use Rattle.lists.specs.UpTo.{sum, bit, count}
+use Rattle.lists.proofs.Sums.{count-le, sum-next, sum-mono}
 use Rattle.refusals.specs.declared.Checked.the-variants.{Accepted}
 use Rattle.refusals.proofs.Laws.{orElse-accepted, test-held}
 use Rattle.records.specs.AcNetwork.{AcNetwork}
+use Rattle.records.specs.Fields.{segmentsOf}
 use Rattle.records.specs.Network.{networkOf}
 use Rattle.records.specs.Network as Network
 use Rattle.records.proofs.Causes.{counts-in-range}
 use Rattle.numbering.specs.Blocks.{before, total}
 use Rattle.numbering.specs.Numbering.{limits, curves, nvar, ncon, rowBlocks, rowNumber}
-use Rattle.numbering.specs.Layout.{layoutOf, layoutCause, InRange, layoutColumns, layoutRows, layoutRow}
+use Rattle.numbering.specs.Layout.{countedOf, layoutOf, layoutCause, InRange, layoutColumns, layoutRows, layoutRow}
 use Rattle.numbering.specs.Tally.{pointsOf, tallyOf}
 use Rattle.numbering.specs.declared.SocWrLayout.{SocWrLayout}
 use Rattle.numbering.specs.declared.Tally.the-variants.{Limited, Piecewise, Segments}
@@ -36,6 +38,10 @@ in-range l h =
       c-range = leb-true _ _ (test-held _ _ (b .1));
     }
 
+-- one point where the test holds
+pub limited-points : {t : Bool} → t ≡ true → bit t ≡ 1
+limited-points e = rw e
+
 module _ (n m k s : ℕ) (b : List ℕ) where
   abbrev G : AcNetwork Float
   G = networkOf n m k s b
@@ -51,6 +57,17 @@ module _ (n m k s : ℕ) (b : List ℕ) where
         c-range = count-le k (G .piecewise);
       }
 
+  pub counted-range : Network.Accepted n m k s b → InRange (countedOf n m k s)
+  counted-range a =
+      record {
+        n-range = a .few-buses;
+        m-range = a .few-branches;
+        k-range = a .few-generators;
+        s-range = a .few-segments;
+        t-range = omega arith;
+        c-range = omega arith;
+      }
+
   -- the tallies of all records of a kind
   pub limits-tally : tallyOf Limited b n m ≡ limits G
   unfolding tallyOf pointsOf
@@ -63,6 +80,28 @@ module _ (n m k s : ℕ) (b : List ℕ) where
   pub segments-tally : (g : ℕ) → tallyOf Segments b (n + m) g ≡ sum g (G .segments)
   unfolding tallyOf pointsOf
   segments-tally g = refl
+
+  -- the tallies before a record
+  pub limited-before : (e : ℕ) → tallyOf Limited b n e ≡ count e (G .limited)
+  unfolding tallyOf pointsOf
+  limited-before e = refl
+
+  pub piecewise-before : (g : ℕ) → tallyOf Piecewise b (n + m) g ≡ count g (G .piecewise)
+  unfolding tallyOf pointsOf
+  piecewise-before g = refl
+
+  pub limited-few : (e : ℕ) → tallyOf Limited b n e ≤ e
+  unfolding tallyOf pointsOf
+  limited-few e = count-le e (G .limited)
+
+  pub piecewise-few : (g : ℕ) → tallyOf Piecewise b (n + m) g ≤ g
+  unfolding tallyOf pointsOf
+  piecewise-few g = count-le g (G .piecewise)
+
+  -- a generator's segment lies among all
+  pub segment-inside : Network.Accepted n m k s b → (g t : ℕ) → g < k → t < segmentsOf b (n + m + g) → sum g (G .segments) + t < s
+  segment-inside a g t l h =
+      omega (arith, a .counts-add, sum-next g (G .segments), sum-mono (g + 1) k (G .segments) (omega arith))
 
 -- the sizes, and the rows of the blocks past the costs, that need the segments to add up
 module _ {A : Type 0} (G : AcNetwork A) where

@@ -2,3 +2,9 @@ pub mod Tallies
 pub mod Layouts
 pub mod Points
 pub mod Names
+pub mod Entered
+pub mod Asked
+pub mod Standing
+pub mod Answers
+pub mod ConeLengths
+pub mod Theorem

@@ -9,7 +9,7 @@ use Rattle.lists.specs.UpTo.{bit, sum}
 use Rattle.lists.proofs.Sums.{bit-le}
 use Rattle.records.specs.AcNetwork.{AcNetwork}
 use Rattle.numbering.specs.Blocks.{Block, points, blockAt, key, Valid, keyAt}
-use Rattle.numbering.specs.Numbering.{columnKey, columnNames, columnOf, columnBlocks, columnAt, ColumnStands, nvar, rowKey, rowNames, rowOf, rowBlocks, rowAt, RowStands, ncon, coneLengths, added}
+use Rattle.numbering.specs.Numbering.{SameKey, columnKey, columnNames, columnOf, columnBlocks, columnAt, ColumnStands, nvar, rowKey, rowNames, rowOf, rowBlocks, rowAt, RowStands, ncon, coneLengths, added}
 use Rattle.numbering.specs.declared.Key.{Key}
 use Rattle.numbering.specs.declared.ColumnName.{ColumnName}
 use Rattle.numbering.specs.declared.ColumnName.the-variants.{Pg, Qg, W, Wr, Wi, Pf, Pt, Qf, Qt, CostOf}
@@ -38,6 +38,13 @@ only b i q w u h = let e : 0 ≡ q = omega arith in ap (key b i) e
 
 one : (b i q : ℕ) → q < 1 → key b i 0 ≡ key b i q
 one b i q h = only b i q 1 (omega arith) h
+
+-- two keys that are the same are equal
+pub same-key : {x y : Key} → SameKey x y → x ≡ y
+same-key {x} {y} h =
+    ap (λ (b : ℕ). key b (x .item) (x .place)) (h .block)
+    ∙ ap (λ (i : ℕ). key (y .block) i (x .place)) (h .item)
+    ∙ ap (key (y .block) (y .item)) (h .place)
 
 pub row-of : (x : RowName) → rowOf (rowKey x) ≡ x
 row-of (Pbal i) = refl

@@ -1,6 +1,6 @@
 -- Laws of blocks: each point below the total has one block, one record in it and one place there. Assumes nothing.
 use Prim.Native.Nat.{ℕ, zero, suc, _+_, _-_, _<_, _≤_}
-use mathlib.Core.Path.{_≡_, refl, ap, _∙_}
+use mathlib.Core.Path.{_≡_, refl, sym, ap, _∙_}
 use mathlib.Core.List.{List, [], _∷_}
 use mathlib.Core.Bool.{Bool, true, false}
 use native.Mathlib.Omega.{arith}
@@ -10,7 +10,7 @@ use borrow.Author.Tests.{ltb-true, ltb-false, lt-ltb, le-ltb}
 use lib.ListN.{length}
 use lib.Dec.{ltb}
 use Rattle.lists.specs.UpTo.{upTo, sum}
-use Rattle.numbering.specs.Blocks.{Block, alike, unlike, records, points, start, size, blockAt, before, total, Valid, numberOf, placed, pickPlace, find, inBlock, keyIn, keyAt}
+use Rattle.numbering.specs.Blocks.{Block, alike, unlike, records, points, start, size, blockAt, before, total, Valid, numberOf, KeyStands, placed, pickPlace, find, inBlock, keyIn, keyAt}
 use Rattle.numbering.specs.declared.Place.{Place}
 use Rattle.numbering.specs.declared.Key.{Key}
 
@@ -82,17 +82,13 @@ start-up B i = omega (arith, start-next B i)
 before-up : (bs : List Block) (b : ℕ) → before bs b ≤ before bs (suc b)
 before-up bs b = omega (arith, before-next bs b)
 
-among : (bs : List Block) (b i : ℕ) → i < records (blockAt bs b) → b < length bs
+pub among : (bs : List Block) (b i : ℕ) → i < records (blockAt bs b) → b < length bs
 among [] b i h = absurd (omega arith)
 among (B ∷ bs) zero i h = omega arith
 among (B ∷ bs) (suc b) i h = omega (arith, among bs b i h)
 
 -- ---- the key of a point is valid, and its number is the point
-pub record KeyRight (bs : List Block) (p : ℕ) (k : Key) : Type 0 where
-  pub valid : Valid bs k
-  pub number : numberOf bs k ≡ p
-
-pub key-right : (bs : List Block) (p : ℕ) → p < total bs → KeyRight bs p (keyAt bs p)
+pub key-right : (bs : List Block) (p : ℕ) → p < total bs → KeyStands bs p (keyAt bs p)
 key-right bs p h =
     let o = find (before bs) (length bs) p in
     let B = blockAt bs (o .item) in
@@ -125,3 +121,7 @@ module _ (bs : List Block) (k : Key) (v : Valid bs k) where
 
   pub key-below : numberOf bs k < total bs
   key-below = omega (arith, outer, rising (before bs) (before-up bs) (suc (k .block)) (length bs) (among bs (k .block) (k .item) (v .item)))
+
+-- so whatever key stands at a point is its key
+pub key-only : (bs : List Block) (p : ℕ) (k : Key) → KeyStands bs p k → k ≡ keyAt bs p
+key-only bs p k h = sym (key-placed bs k (h .valid)) ∙ ap (keyAt bs) (h .number)

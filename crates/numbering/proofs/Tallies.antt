@@ -2,10 +2,8 @@
 use Prim.Native.Nat.{ℕ, _+_, _≤_, _<_}
 use mathlib.Core.Path.{_≡_, refl}
 use mathlib.Core.List.{List}
-use native.Mathlib.Omega.{arith}
-use native.Mathlib.Decide.{ℕ-discrete}
 use Rattle.lists.specs.UpTo.{upTo}
-use Rattle.lists.proofs.Sums.{sum-next, sum-mono}
+use Rattle.lists.proofs.Sums.{sum-next, sum-mono, sum-later, sum-some}
 use Rattle.numbering.specs.Tally.{pointsOf, tallyOf}
 use Rattle.numbering.specs.declared.Tally.{Tally}
 
@@ -25,7 +23,9 @@ module _ (t : Tally) (b : List ℕ) (first : ℕ) where
   -- a point past record i is in a later one
   pub tally-later : (i count p rest : ℕ) → i < count → p < tallyOf t b first count → tallyOf t b first i + rest ≡ p
       → pointsOf t b (first + i) ≤ rest → i + 1 < count
-  tally-later i count p rest l h e g = elim (ℕ-discrete (i + 1) count) [
-    | yes q ↦ let f : p < tallyOf t b first (i + 1) = rw q h in absurd (omega (arith, tally-more i))
-    | no q ↦ omega arith
-  ]
+  unfolding tallyOf
+  tally-later i count p rest l h e g = sum-later (λ j. pointsOf t b (first + j)) i count p rest l h e g
+
+  pub tally-some : (count p : ℕ) → p < tallyOf t b first count → 0 < count
+  unfolding tallyOf
+  tally-some count p h = sum-some (λ j. pointsOf t b (first + j)) count p h

@@ -1,6 +1,7 @@
 -- Document 01, `SocWrLayout`: "its number adds up the lengths of the blocks before its own and the count of names before it in its own,
 -- by record, then by place." A block is a list of records, and each record has some points, one for each name in it.
 use Prim.Native.Nat.{ℕ, zero, suc, _+_, _-_, _*_, _<_}
+use mathlib.Core.Path.{_≡_}
 use mathlib.Core.Bool.{Bool, true, false}
 use mathlib.Core.List.{List, [], _∷_}
 use lib.ListN.{length, getD}
@@ -53,6 +54,11 @@ pub record Valid (bs : List Block) (k : Key) : Type 0 where
 -- the points of the blocks before its own, of the records before its own in the block, and its place
 abbrev pub numberOf : List Block → Key → ℕ
 numberOf bs k = before bs (k .block) + (start (blockAt bs (k .block)) (k .item) + k .place)
+
+-- a key that stands for point p
+pub record KeyStands (bs : List Block) (p : ℕ) (k : Key) : Type 0 where
+  pub valid : Valid bs k
+  pub number : numberOf bs k ≡ p
 
 -- ---- back: of n things that start at start 0, start 1, .., the one that point p is in
 abbrev pub placed : ℕ → ℕ → Place

@@ -1,8 +1,10 @@
 -- The layout: counts alone, and what they give of the numbering.
-use Prim.Native.Nat.{ℕ, _+_, _*_, _≤_}
+use Prim.Native.Nat.{ℕ, _+_, _*_, _≤_, _<_}
+use mathlib.Core.Path.{_≡_}
 use mathlib.Core.List.{List, [], _∷_}
 use lib.Dec.{leb}
-use lib.Ieee.{Float}
+use lib.ListN.{getD}
+use Rattle.lists.specs.UpTo.{sum}
 use Rattle.refusals.specs.Refusals.{_orElse_, refuseUnless}
 use Rattle.refusals.specs.declared.Checked.{Checked}
 use Rattle.refusals.specs.declared.Refusal.the-variants.{CountTooLarge}
@@ -11,12 +13,17 @@ use Rattle.records.specs.AcNetwork.{AcNetwork}
 use Rattle.numbering.specs.Blocks.{Block, alike, numberOf}
 use Rattle.numbering.specs.Numbering.{limits, curves, columnKey, rowKey}
 use Rattle.numbering.specs.declared.SocWrLayout.{SocWrLayout}
+use Rattle.numbering.specs.declared.Place.{Place}
 use Rattle.numbering.specs.declared.ColumnName.{ColumnName}
 use Rattle.numbering.specs.declared.RowName.{RowName}
 
 -- the layout of a network: its counts, T and the cost columns
 abbrev pub layoutOf : {A : Type 0} → AcNetwork A → SocWrLayout
 layoutOf G = record { n = G .n; m = G .m; k = G .k; s = G .s; t = limits G; «cost_columns» = curves G }
+
+-- counts alone, with no limited branch and no cost column
+abbrev pub countedOf : ℕ → ℕ → ℕ → ℕ → SocWrLayout
+countedOf n m k s = record { n = n; m = m; k = k; s = s; t = 0; «cost_columns» = 0 }
 
 -- 1: the record check's causes, then "in a layout handed in, T above m or cost columns above k"
 unfoldable pub layoutCause : SocWrLayout → Checked
@@ -52,6 +59,22 @@ layoutRows l =
     ∷ alike (l .s) 1
     ∷ alike (l .m) 4
     ∷ alike (l .t) 6 ∷ []
+
+-- the blocks' lengths
+abbrev pub columnSizes : SocWrLayout → List ℕ
+columnSizes l = l .k ∷ l .k ∷ l .n ∷ l .m ∷ l .m ∷ l .m ∷ l .m ∷ l .m ∷ l .m ∷ l .«cost_columns» ∷ []
+
+abbrev pub rowSizes : SocWrLayout → List ℕ
+rowSizes l =
+    l .n ∷ l .n ∷ l .m ∷ l .m ∷ l .m ∷ l .m ∷ l .n ∷ l .n ∷ l .k ∷ l .k ∷ l .k ∷ l .k ∷ l .m ∷ l .m ∷ l .s ∷ 4 * l .m ∷ 6 * l .t ∷ []
+
+-- where a block starts, and the block that a point is in with its place there
+unfoldable pub startIn : List ℕ → ℕ → ℕ
+startIn ws b = sum b (λ j. getD ws j 0)
+
+pub record InBlock (ws : List ℕ) (p : ℕ) (q : Place) : Type 0 where
+  pub inside : q .at < getD ws (q .item) 0
+  pub number : startIn ws (q .item) + q .at ≡ p
 
 -- "n_eq = 2n + 4m. n_ineq = 2n + 4k + 2m + S."
 abbrev pub nEqOf : SocWrLayout → ℕ

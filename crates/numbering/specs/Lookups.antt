@@ -2,14 +2,14 @@
 use Prim.Native.Nat.{ℕ, _+_, _*_}
 use mathlib.Core.Bool.{Bool, true, false, cond}
 use mathlib.Core.List.{List, [], _∷_, _++_}
-use lib.Dec.{eqb, ltb, leb}
+use lib.Dec.{eqb, ltb}
 use lib.ListN.{length, replicate}
 use lib.Ieee.{Float}
-use Rattle.refusals.specs.Refusals.{_orElse_, refuseUnless, numberOf as causeNumber, valueOf as causeValue}
+use Rattle.refusals.specs.Refusals.{_orElse_, refuseUnless, roomFor, numberOf as causeNumber, valueOf as causeValue}
 use Rattle.refusals.specs.declared.Checked.{Checked}
 use Rattle.refusals.specs.declared.Checked.the-variants.{Accepted, Refused}
 use Rattle.refusals.specs.declared.Refusal.{Refusal}
-use Rattle.refusals.specs.declared.Refusal.the-variants.{PastEnd, OutputTooShort}
+use Rattle.refusals.specs.declared.Refusal.the-variants.{PastEnd}
 use Rattle.records.specs.AcNetwork.{AcNetwork}
 use Rattle.records.specs.Network.{networkOf}
 use Rattle.records.specs.Check.{checkOf}
@@ -71,7 +71,7 @@ sizeIn l p = afterCheck (layoutCause l) (Lookup.Number p)
 -- ---- numbers on counts and records: the record check, then 7. "A lookup with the index of a branch without limit, or of a generator
 -- without cost column, answers None. With a cost column, a segment not below its generator's count is 7 and returns the segment; the
 -- generator's index is tested first." A block that there is none of is 7 too, before the index.
-abbrev pub asked : List Block → Bool → Key → Lookup
+unfoldable pub asked : List Block → Bool → Key → Lookup
 asked bs has x =
     pickLookup (ltb (x .block) (length bs))
     (pickLookup (ltb (x .item) (records (blockAt bs (x .block))))
@@ -102,17 +102,55 @@ module _ (n m k s : ℕ) (b : List ℕ) where
   abbrev pub rowLookup : Key → Lookup
   rowLookup x = afterCheck (checkOf n m k s b) (rowAsked (networkOf n m k s b) x)
 
-  -- ---- "Added: the name of a given row or column number"; 7 "row or column number past the end"
+-- ---- "Added: the name of a given row or column number"; 7 "row or column number past the end"
+unfoldable pub columnAnswer : Checked → ColumnName → ColumnAnswer
+columnAnswer Accepted x = ColumnAnswer.Column x
+columnAnswer (Refused cause) x = ColumnAnswer.Refused cause
+
+unfoldable pub rowAnswer : Checked → RowName → RowAnswer
+rowAnswer Accepted x = RowAnswer.Row x
+rowAnswer (Refused cause) x = RowAnswer.Refused cause
+
+-- the number and the value of such an answer; a name's are 0 and 0
+abbrev pub columnAnswerNumber : ColumnAnswer → ℕ
+columnAnswerNumber (ColumnAnswer.Column x) = 0
+columnAnswerNumber (ColumnAnswer.Refused cause) = causeNumber cause
+
+abbrev pub columnAnswerValue : ColumnAnswer → ℕ
+columnAnswerValue (ColumnAnswer.Column x) = 0
+columnAnswerValue (ColumnAnswer.Refused cause) = causeValue cause
+
+abbrev pub rowAnswerNumber : RowAnswer → ℕ
+rowAnswerNumber (RowAnswer.Row x) = 0
+rowAnswerNumber (RowAnswer.Refused cause) = causeNumber cause
+
+abbrev pub rowAnswerValue : RowAnswer → ℕ
+rowAnswerValue (RowAnswer.Row x) = 0
+rowAnswerValue (RowAnswer.Refused cause) = causeValue cause
+
+module _ (n m k s : ℕ) (b : List ℕ) where
   unfoldable pub columnNamed : ℕ → ColumnAnswer
-  columnNamed p = named (checkOf n m k s b orElse refuseUnless (ltb p (nvar (networkOf n m k s b))) (PastEnd p)) (columnAt (networkOf n m k s b) p)
-    where
-      named : Checked → ColumnName → ColumnAnswer
-      named Accepted x = ColumnAnswer.Column x
-      named (Refused cause) x = ColumnAnswer.Refused cause
+  columnNamed p =
+      columnAnswer (checkOf n m k s b orElse refuseUnless (ltb p (nvar (networkOf n m k s b))) (PastEnd p)) (columnAt (networkOf n m k s b) p)
 
   unfoldable pub rowNamed : ℕ → RowAnswer
-  rowNamed p = named (checkOf n m k s b orElse refuseUnless (ltb p (ncon (networkOf n m k s b))) (PastEnd p)) (rowAt (networkOf n m k s b) p)
-    where
-      named : Checked → RowName → RowAnswer
-      named Accepted x = RowAnswer.Row x
-      named (Refused cause) x = RowAnswer.Refused cause
+  rowNamed p = rowAnswer (checkOf n m k s b orElse refuseUnless (ltb p (ncon (networkOf n m k s b))) (PastEnd p)) (rowAt (networkOf n m k s b) p)
+
+-- ---- `SocWrLayout::new`
+unfoldable pub layoutAnswer : Checked → SocWrLayout → LayoutAnswer
+layoutAnswer Accepted l = LayoutAnswer.Layout l
+layoutAnswer (Refused cause) l = LayoutAnswer.Refused cause
+
+abbrev pub newLayout : ℕ → ℕ → ℕ → ℕ → List ℕ → LayoutAnswer
+newLayout n m k s b = layoutAnswer (checkOf n m k s b) (layoutOf (networkOf n m k s b))
+
+-- ---- `cones`: the lengths "in this order to a lent u32 slice"
+abbrev pub conesOf : SocWrLayout → List ℕ
+conesOf l = nEqOf l ∷ nIneqOf l ∷ (replicate (l .m) 4 ++ replicate (2 * l .t) 3)
+
+abbrev pub coneCount : SocWrLayout → ℕ
+coneCount l = 2 + l .m + 2 * l .t
+
+-- 1 or the record check, then 10
+abbrev pub conesCheck : Checked → SocWrLayout → List ℕ → Checked
+conesCheck c l out = c orElse roomFor (coneCount l) (length out)

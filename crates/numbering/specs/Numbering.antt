@@ -46,6 +46,12 @@ rowKey (Segment g t) = key 14 g t
 rowKey (Jabr e q) = key 15 e q
 rowKey (Thermal e q) = key 16 e q
 
+-- two keys are the same
+pub record SameKey (a b : Key) : Type 0 where
+  pub block : a .block ≡ b .block
+  pub item : a .item ≡ b .item
+  pub place : a .place ≡ b .place
+
 -- ---- and back: the names that record i and place q have in the blocks, in the blocks' order
 
 abbrev pub columnNames : ℕ → List ColumnName

@@ -2,15 +2,31 @@
 use crate::SocWrLayout;
 use crate::Tally;
 
+pub mod blocks;
+pub mod names;
 pub mod tally;
 
 ghost use mathlib.Core.Path.{_≡_};
 ghost use Prim.Native.Nat.{_+_, _*_, _≤_, _<_};
 ghost use Rattle.numbering.specs.Blocks.{before, total};
 ghost use Rattle.records.specs.Network.{Accepted, networkOf};
-ghost use Rattle.numbering.specs.Layout.{InRange, layoutOf, layoutColumns, layoutRows, nEqOf, nIneqOf, layoutColumn, layoutRow};
+ghost use Rattle.numbering.specs.Layout.{InRange, countedOf, layoutOf, layoutColumns, layoutRows, nEqOf, nIneqOf, layoutColumn, layoutRow};
 ghost use Rattle.numbering.specs.declared.ColumnName.the-variants.{Pg, Qg, W, Wr, Wi, Pf, Pt, Qf, Qt};
 ghost use Rattle.numbering.specs.declared.RowName.the-variants.{Pbal, Qbal, OhmPf, OhmQf, OhmPt, OhmQt, Wub, Wlb, Pgub, Pglb, Qgub, Qglb, Angub, Anglb, Jabr};
+
+// A layout of counts alone, with no limited branch and no cost column: what does not depend on these is as in the network.
+pub fn counted(n: usize, m: usize, k: usize, s: usize) -> SocWrLayout
+    ensures { λ r. ⌜ r ≡ countedOf n m k s ⌝ }
+{
+    SocWrLayout {
+        n,
+        m,
+        k,
+        s,
+        t: 0,
+        cost_columns: 0,
+    }
+}
 
 // The layout of an accepted network.
 pub fn layout(n: usize, m: usize, k: usize, s: usize, bytes: &[u8]) -> SocWrLayout

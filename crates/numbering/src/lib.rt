@@ -1,7 +1,12 @@
 // Numbering of the rows and columns of the SOCWR program.
 use refusals::Refusal;
 
+pub mod cones;
 pub mod inner;
+pub mod keys;
+pub mod layout;
+pub mod lookups;
+pub mod named;
 
 // A point of a row of things that have several points each: the thing, and the place in it.
 pub struct Place {

@@ -1,14 +1,17 @@
 -- Laws of checks and of what they leave in a lent list. Assumes nothing.
-use Prim.Native.Nat.{ℕ}
+use Prim.Native.Nat.{ℕ, _≤_}
 use mathlib.Core.Path.{_≡_, refl, sym, _∙_, subst}
 use mathlib.Core.Bool.{Bool, true, false}
-use mathlib.Core.List.{List}
+use mathlib.Core.List.{List, _++_}
 use lib.Dec.{T}
+use borrow.Author.Tests.{leb-true}
+use lib.ListN.{length, drop}
 use Rattle.lists.specs.UpTo.{overlay}
-use Rattle.refusals.specs.Refusals.{_orElse_, isRefused, refuseUnless, writtenIf, leftIn}
+use Rattle.refusals.specs.Refusals.{_orElse_, isRefused, refuseUnless, roomFor, writtenIf, leftIn}
 use Rattle.refusals.specs.declared.Refusal.{Refusal}
 use Rattle.refusals.specs.declared.Checked.{Checked}
 use Rattle.refusals.specs.declared.Checked.the-variants.{Accepted, Refused}
+use Rattle.refusals.specs.declared.Written.{Written}
 use Rattle.refusals.specs.declared.Written.the-variants as Written
 
 pub orElse-refused : (a c : Checked) → isRefused a ≡ true → a orElse c ≡ a
@@ -39,6 +42,9 @@ pub held : (t : Bool) (cause : Refusal) → t ≡ true → refuseUnless t cause 
 unfolding refuseUnless
 held t cause h = rw h
 
+pub has-room : (need there : ℕ) → roomFor need there ≡ Accepted → need ≤ there
+has-room need there h = leb-true need there (test-held _ _ h)
+
 pub failed : (t : Bool) (cause : Refusal) → t ≡ false → refuseUnless t cause ≡ Refused cause
 unfolding refuseUnless
 failed t cause h = rw h
@@ -66,6 +72,11 @@ unfolding leftIn isRefused
 left-refused Accepted xs ys h = absurd (subst T (sym h) tt)
 left-refused (Refused cause) xs ys h = refl
 
+-- where the check passed, the front that was lent on is the list itself
+pub left-front : {A : Type 0} {c : Checked} {xs part : List A} (n : ℕ) (ys : List A) → c ≡ Accepted → part ≡ xs → length part ≡ n → part ++ drop n ys ≡ leftIn c xs ys
+unfolding leftIn overlay
+left-front n ys e p l = rw (e, ← p, l)
+
 pub count-written : {c : Checked} (n : ℕ) → c ≡ Accepted → writtenIf c n ≡ Written.Count n
 unfolding writtenIf
 count-written n e = rw e
@@ -73,3 +84,41 @@ count-written n e = rw e
 pub count-refused : {c : Checked} {cause : Refusal} (n : ℕ) → c ≡ Refused cause → writtenIf c n ≡ Written.Refused cause
 unfolding writtenIf
 count-refused n e = rw e
+
+-- a check r that computes c, and does not refuse
+pub accepted-by : {r c : Checked} {b : Bool} → r ≡ c → b ≡ isRefused r → b ≡ false → c ≡ Accepted
+accepted-by {r} e p h = sym e ∙ passed r (sym p ∙ h)
+
+pub refused-by : {r c : Checked} {b : Bool} → r ≡ c → b ≡ isRefused r → b ≡ true → isRefused c ≡ true
+refused-by e p h = rw (← e, ← p) h
+
+-- a test that failed, or one that held and the rest of the check
+pub first-failed : {t : Bool} {cause : Refusal} {r : Checked} (c : Checked) → t ≡ false → r ≡ Refused cause → r ≡ refuseUnless t cause orElse c
+unfolding refuseUnless _orElse_
+first-failed c h e = rw h e
+
+pub first-held : {t : Bool} (cause : Refusal) {r c : Checked} → t ≡ true → r ≡ c → r ≡ refuseUnless t cause orElse c
+unfolding refuseUnless _orElse_
+first-held cause h e = rw h e
+
+-- the count says nothing on a refusal
+pub count-any : (c : Checked) (m n : ℕ) → isRefused c ≡ true → writtenIf c m ≡ writtenIf c n
+unfolding writtenIf isRefused
+count-any Accepted m n h = absurd (subst T (sym h) tt)
+count-any (Refused cause) m n h = refl
+
+-- an entry that checks, and then writes the front of one lent list
+module _ {r c : Checked} {b : Bool} {A : Type 0} (e : r ≡ c) (p : b ≡ isRefused r) where
+  pub refuses : {w : Written} (m n : ℕ) (xs ys : List A) → b ≡ true → w ≡ writtenIf r m → (w ≡ writtenIf c n) × (ys ≡ leftIn c xs ys)
+  refuses m n xs ys h q =
+      let f = refused-by e p h in
+      (q ∙ rw e (count-any c m n f), sym (left-refused c xs ys f))
+
+  pub writes : {part xs : List A} (m n : ℕ) (ys : List A) → b ≡ false → part ≡ xs → length part ≡ n → m ≡ n → (Written.Count m ≡ writtenIf c n) × (part ++ drop m ys ≡ leftIn c xs ys)
+  writes m n ys h q l k =
+      let f = accepted-by e p h in
+      (rw k (sym (count-written n f)), rw k (left-front n ys f q l))
+
+-- where the check passed, a copy of xs is what is left
+pub left-copied : {A : Type 0} {c : Checked} (zs xs ys : List A) {d : List A} → c ≡ Accepted → d ≡ overlay zs ys → zs ≡ xs → d ≡ leftIn c xs ys
+left-copied zs xs ys h p q = p ∙ rw q (sym (left-written xs ys h))

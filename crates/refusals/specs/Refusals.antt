@@ -2,6 +2,7 @@
 use Prim.Native.Nat.{ℕ}
 use mathlib.Core.Bool.{Bool, true, false}
 use mathlib.Core.List.{List}
+use lib.Dec.{leb}
 use Rattle.lists.specs.UpTo.{overlay}
 use Rattle.refusals.specs.declared.Refusal.{Refusal}
 use Rattle.refusals.specs.declared.Refusal.the-variants.{CountTooLarge, RecordsLength, BadRecord, NoSuchBus, EqualEnds, SolutionLength, PastEnd, PiecewiseCost, NotInSocWr, OutputTooShort, ModeAuto, BadLists, InputTooLong}
@@ -57,6 +58,10 @@ isRefused (Refused cause) = true
 unfoldable pub refuseUnless : Bool → Refusal → Checked
 refuseUnless true cause = Accepted
 refuseUnless false cause = Refused cause
+
+-- "an output slice too short": the length needed, against the length that is there
+abbrev pub roomFor : ℕ → ℕ → Checked
+roomFor need there = refuseUnless (leb need there) (OutputTooShort need)
 
 -- the number and the value of a check's answer; 0 and 0 where it accepts
 abbrev pub checkedNumber : Checked → ℕ

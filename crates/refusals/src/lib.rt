@@ -1,6 +1,6 @@
 // The causes that turn an input away, and the answers that hold one.
 ghost use mathlib.Core.Path.{_≡_};
-ghost use Rattle.refusals.specs.Refusals.{numberOf, valueOf, isRefused, refuseUnless, _orElse_, writtenIf};
+ghost use Rattle.refusals.specs.Refusals.{numberOf, valueOf, isRefused, refuseUnless, roomFor, _orElse_, writtenIf};
 
 // A cause of document 01. What a case holds is the value returned with its number.
 pub enum Refusal {
@@ -112,6 +112,13 @@ pub fn refuse_unless(ok: bool, cause: Refusal) -> Checked
         return Checked::Accepted;
     }
     Checked::Refused(cause)
+}
+
+// Whether an output of the length that is there holds what is needed.
+pub fn room_for(need: usize, there: usize) -> Checked
+    ensures { λ r. ⌜ r ≡ roomFor need there ⌝ }
+{
+    refuse_unless(need <= there, Refusal::OutputTooShort(need as u64))
 }
 
 // The count, where the check passed.

@@ -1,11 +1,10 @@
 -- `numbering::inner::tally::locate` meets its contract. The point lies past the records passed, by the rest. Assumes nothing.
 use borrow.Author.Needs.{needs}
-use Prim.Native.Nat.{_+_, _<_, _≤_, _-_}
+use Prim.Native.Nat.{_+_, _<_, _-_}
 use mathlib.Core.Path.{_≡_}
 use native.Mathlib.Omega.{arith}
-use native.Mathlib.Decide.{ℕ-discrete}
 use Rattle.numbering.specs.Tally.{tallyOf}
-use Rattle.numbering.proofs.Tallies.{tally-none, tally-more, tally-later}
+use Rattle.numbering.proofs.Tallies.{tally-none, tally-more, tally-later, tally-some}
 use Rattle.numbering.proofs.inner.tally.locate.Statement.{statement}
 use Rattle.numbering.proofs.inner.tally.locate.Tie as tie
 
@@ -18,11 +17,7 @@ abbrev μ-loop : tie.MeasureT-loop
 loop-holds : tie.Need-loop-holds Inv-loop μ-loop
 loop-holds c =
     let a = c .before .args in
-    let z = tally-none (a .t) (a .b .now) (a .first) in
-    elim (ℕ-discrete (a .count) 0) [
-      | yes e ↦ let h : a .p < tallyOf (a .t) (a .b .now) (a .first) 0 = rw (← e) (c .before .pre .1) in absurd (omega arith)
-      | no e ↦ (omega arith, omega arith)
-    ]
+    (tally-some (a .t) (a .b .now) (a .first) (a .count) (a .p) (c .before .pre .1), omega (arith, tally-none (a .t) (a .b .now) (a .first)))
 
 returns : tie.Need-returns Inv-loop μ-loop
 returns c = record { below = omega arith; inside = omega arith; number = c .before .before .loop .inv .1 }

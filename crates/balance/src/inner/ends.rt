@@ -1,0 +1,104 @@
+// The ends that balance rows add up: generators, and branches at their from and to buses.
+use crate::End;
+use lines::inner::wide;
+use numbering::SocWrLayout;
+use numbering::inner::col_pf;
+use numbering::inner::col_pg;
+use numbering::inner::col_pt;
+use numbering::inner::col_qf;
+use numbering::inner::col_qg;
+use numbering::inner::col_qt;
+use numbering::inner::col_w;
+use records::inner::br_from;
+use records::inner::br_to;
+use records::inner::bs;
+use records::inner::gen_bus;
+use records::inner::gs;
+ghost use mathlib.Core.Path.{_≡_};
+ghost use mathlib.Core.Bool.{true, false};
+ghost use Prim.Native.Nat.{_<_};
+ghost use Rattle.numbering.specs.Layout.{InRange, layoutColumn};
+ghost use Rattle.rows.specs.Rows.{constant64};
+ghost use Rattle.lines.specs.Line.{networkIn, Network};
+ghost use Rattle.balance.specs.Ends.{endCount, endBus, endColumn, endConstant, selfValue};
+
+pub fn count_at(l: SocWrLayout, end: End) -> usize
+    ensures { λ r. ⌜ r ≡ endCount l end ⌝ }
+{
+    match end {
+        End::Gen => l.k,
+        End::From => l.m,
+        End::To => l.m,
+    }
+}
+
+// The bus of end j.
+pub fn bus_at(l: SocWrLayout, bytes: &[u8], end: End, j: usize) -> usize
+    requires { ⌜ Network l (now bytes) ⌝ }
+    requires { ⌜ j < endCount l end ⌝ }
+    ensures { λ r. ⌜ r ≡ endBus (networkIn l (now (bytes .entry))) end j ⌝ }
+{
+    match end {
+        End::Gen => wide(gen_bus(bytes, l.n + l.m + j)),
+        End::From => wide(br_from(bytes, l.n + j)),
+        End::To => wide(br_to(bytes, l.n + j)),
+    }
+}
+
+fn active_column(l: SocWrLayout, end: End, j: usize) -> u32
+    requires { ⌜ InRange l ⌝ }
+    requires { ⌜ j < endCount l end ⌝ }
+    ensures { λ r. ⌜ r ≡ layoutColumn l (endColumn false end j) ⌝ }
+{
+    match end {
+        End::Gen => col_pg(l, j),
+        End::From => col_pf(l, j),
+        End::To => col_pt(l, j),
+    }
+}
+
+fn reactive_column(l: SocWrLayout, end: End, j: usize) -> u32
+    requires { ⌜ InRange l ⌝ }
+    requires { ⌜ j < endCount l end ⌝ }
+    ensures { λ r. ⌜ r ≡ layoutColumn l (endColumn true end j) ⌝ }
+{
+    match end {
+        End::Gen => col_qg(l, j),
+        End::From => col_qf(l, j),
+        End::To => col_qt(l, j),
+    }
+}
+
+// The column of end j in the active or the reactive balance rows.
+pub fn column_at(l: SocWrLayout, q: bool, end: End, j: usize) -> u32
+    requires { ⌜ InRange l ⌝ }
+    requires { ⌜ j < endCount l end ⌝ }
+    ensures { λ r. ⌜ r ≡ layoutColumn l (endColumn q end j) ⌝ }
+{
+    if q {
+        return reactive_column(l, end, j);
+    }
+    active_column(l, end, j)
+}
+
+pub fn value_at(end: End) -> f64
+    ensures { λ r. ⌜ r ≡ constant64 (endConstant end) ⌝ }
+{
+    match end {
+        End::Gen => 1.0,
+        End::From => -1.0,
+        End::To => -1.0,
+    }
+}
+
+// The coefficient of the bus's own w.
+pub fn self_value(l: SocWrLayout, bytes: &[u8], q: bool, i: usize) -> f64
+    requires { ⌜ Network l (now bytes) ⌝ }
+    requires { ⌜ i < l .n ⌝ }
+    ensures { λ r. ⌜ r ≡ selfValue (networkIn l (now (bytes .entry))) q i ⌝ }
+{
+    if q {
+        return bs(bytes, i);
+    }
+    -gs(bytes, i)
+}

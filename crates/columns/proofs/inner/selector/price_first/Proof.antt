@@ -1,0 +1,23 @@
+-- `columns::inner::selector::price_first` meets its contract. Assumes nothing.
+use borrow.Author.Needs.{needs}
+use mathlib.Core.Path.{_≡_, ap₂, _∙_}
+use Prim.Native.Nat.{_+_}
+use native.Mathlib.Omega.{arith}
+use Rattle.interface.specs.declared.Operand.the-variants.{Price}
+use Rattle.columns.specs.Laid.{netOf}
+use Rattle.columns.specs.Selector.{selectorRow}
+use Rattle.columns.proofs.Numbers.{nvar-number, demand-number, row-few}
+use Rattle.columns.proofs.inner.selector.price_first.Statement.{statement}
+use Rattle.columns.proofs.inner.selector.price_first.Tie as tie
+
+add-result : tie.Need-add-result
+add-result c =
+    let a = c .before .before .before .args in
+    let e : c .before .nvar .result + c .demand-row .result ≡ selectorRow (netOf (a .l) (a .bytes .now)) (Price (a .power)) 0 = ap₂ _+_ (c .before .nvar .ensures ∙ nvar-number (a .l) (a .bytes .now) (c .before .before .before .pre .0)) (c .demand-row .ensures ∙ demand-number (a .l) (a .bytes .now) (a .power) 0) in
+    omega (arith, e, row-few (a .l) (a .bytes .now) (c .before .before .before .pre .0) (Price (a .power)))
+
+returns : tie.Need-returns
+returns c = ap₂ _+_ (c .before .nvar .ensures ∙ nvar-number (c .before .before .before .args .l) (c .before .before .before .args .bytes .now) (c .before .before .before .pre .0)) (c .demand-row .ensures ∙ demand-number (c .before .before .before .args .l) (c .before .before .before .args .bytes .now) (c .before .before .before .args .power) 0)
+
+pub price-first-spec : {M : Type 1} → statement M
+price-first-spec = tie.close (tie.spec (λ c κs. search needs) (λ c κs. search needs) add-result returns)

@@ -1,0 +1,154 @@
+// One column of the KKT system by a parameter.
+use crate::inner::lengths::asks_cost;
+use crate::inner::lengths::has_parameter;
+use crate::inner::lengths::parameter_count;
+use crate::inner::limit::line_limit;
+use crate::inner::plain::cost;
+use crate::inner::plain::demand;
+use crate::inner::plain::gen_bound;
+use crate::inner::plain::shunt;
+use crate::inner::plain::voltage_bound;
+use crate::inner::series::series_admittance;
+use interface::Parameter;
+use lists::inner::fill_f64;
+use numbering::SocWrLayout;
+use numbering::inner::ncon;
+use numbering::inner::nvar;
+use records::inner::id;
+use records::inner::piecewise;
+use refusals::Checked;
+use refusals::Refusal;
+use refusals::Written;
+use refusals::is_refused;
+use refusals::or_else;
+use refusals::refuse_unless;
+use refusals::room_for;
+use refusals::written_if;
+ghost use mathlib.Core.Path.{_≡_};
+ghost use Prim.Native.Nat.{_<_};
+ghost use lib.ListN.{length};
+ghost use Rattle.refusals.specs.Refusals.{writtenIf, leftIn};
+ghost use Rattle.columns.specs.Laid.{netOf, Laid};
+ghost use Rattle.columns.specs.Stores.{storedAll};
+ghost use Rattle.columns.specs.Lengths.{parameterLen};
+ghost use Rattle.columns.specs.Jacobian.{stores, dim, jacobian, solutionCause, piecewiseCause, parameterCause, columnCause};
+
+// The stores of a column.
+fn write(
+    l: SocWrLayout,
+    bytes: &[u8],
+    x: &[f64],
+    z: &[f64],
+    p: Parameter,
+    i: usize,
+    column: &mut [f64],
+)
+    requires { ⌜ Laid l (now bytes) ⌝ }
+    requires { ⌜ i < parameterLen (l .n) (l .m) (l .k) p ⌝ }
+    ensures { λ _. ⌜ now (column .exit) ≡ storedAll (stores (netOf l (now (bytes .entry))) (now (x .entry)) (now (z .entry)) p i) (now (column .entry)) ⌝ }
+{
+    match p {
+        Parameter::Demand(power) => demand(l, power, i, column),
+        Parameter::Cost(term) => cost(l, term, i, x, column),
+        Parameter::LineLimit => line_limit(l, bytes, i, z, column),
+        Parameter::SeriesAdmittance(gb) => series_admittance(l, bytes, gb, i, x, z, column),
+        Parameter::ShuntAdmittance(gb) => shunt(l, gb, i, x, z, column),
+        Parameter::VoltageBound(bound) => voltage_bound(l, bound, i, z, column),
+        Parameter::GenBound { power, bound } => gen_bound(l, power, bound, i, z, column),
+        Parameter::Transformer(_) => {}
+        Parameter::Switching => {}
+        Parameter::ConstraintLimit => {}
+    }
+}
+
+// nvar + ncon.
+fn dim(l: SocWrLayout, bytes: &[u8]) -> usize
+    requires { ⌜ Laid l (now bytes) ⌝ }
+    ensures { λ r. ⌜ r ≡ dim (netOf l (now (bytes .entry))) ⌝ }
+{
+    nvar(l) as usize + ncon(l) as usize
+}
+
+// 6.
+pub fn solution_cause(l: SocWrLayout, bytes: &[u8], xs: usize, zs: usize) -> Checked
+    requires { ⌜ Laid l (now bytes) ⌝ }
+    ensures { λ r. ⌜ r ≡ solutionCause (netOf l (now (bytes .entry))) xs zs ⌝ }
+{
+    or_else(
+        refuse_unless(xs == nvar(l) as usize, Refusal::SolutionLength(0)),
+        refuse_unless(zs == ncon(l) as usize, Refusal::SolutionLength(1)),
+    )
+}
+
+// 8.
+fn piecewise_cause(l: SocWrLayout, bytes: &[u8], p: Parameter, i: usize) -> Checked
+    requires { ⌜ Laid l (now bytes) ⌝ }
+    requires { ⌜ i < parameterLen (l .n) (l .m) (l .k) p ⌝ }
+    ensures { λ r. ⌜ r ≡ piecewiseCause (netOf l (now (bytes .entry))) p i ⌝ }
+{
+    if asks_cost(p) {
+        let r = l.n + l.m + i;
+        return refuse_unless(
+            !piecewise(bytes, r),
+            Refusal::PiecewiseCost(id(bytes, r) as u64),
+        );
+    }
+    Checked::Accepted
+}
+
+// 9, 7, 8.
+fn parameter_cause(l: SocWrLayout, bytes: &[u8], p: Parameter, i: usize) -> Checked
+    requires { ⌜ Laid l (now bytes) ⌝ }
+    ensures { λ r. ⌜ r ≡ parameterCause (netOf l (now (bytes .entry))) p i ⌝ }
+{
+    if !has_parameter(p) {
+        return Checked::Refused(Refusal::NotInSocWr);
+    }
+    if i < parameter_count(l.n, l.m, l.k, p) {
+        return piecewise_cause(l, bytes, p, i);
+    }
+    Checked::Refused(Refusal::PastEnd(i as u64))
+}
+
+// 6, 9, 7, 8, 10.
+fn column_cause(
+    l: SocWrLayout,
+    bytes: &[u8],
+    p: Parameter,
+    i: usize,
+    xs: usize,
+    zs: usize,
+    there: usize,
+) -> Checked
+    requires { ⌜ Laid l (now bytes) ⌝ }
+    ensures { λ r. ⌜ r ≡ columnCause (netOf l (now (bytes .entry))) p i xs zs there ⌝ }
+{
+    let solution = solution_cause(l, bytes, xs, zs);
+    let parameter = parameter_cause(l, bytes, p, i);
+    let room = room_for(dim(l, bytes), there);
+    or_else(solution, or_else(parameter, room))
+}
+
+// The column of accepted records.
+pub fn column_of(
+    l: SocWrLayout,
+    bytes: &[u8],
+    x: &[f64],
+    z: &[f64],
+    p: Parameter,
+    i: usize,
+    column: &mut [f64],
+) -> Written
+    requires { ⌜ Laid l (now bytes) ⌝ }
+    ensures { λ r. ⌜ r ≡ writtenIf (columnCause (netOf l (now (bytes .entry))) p i (length (now (x .entry))) (length (now (z .entry))) (length (now (column .entry)))) (dim (netOf l (now (bytes .entry)))) ⌝ }
+    ensures { λ _. ⌜ now (column .exit) ≡ leftIn (columnCause (netOf l (now (bytes .entry))) p i (length (now (x .entry))) (length (now (z .entry))) (length (now (column .entry)))) (jacobian (netOf l (now (bytes .entry))) (now (x .entry)) (now (z .entry)) p i) (now (column .entry)) ⌝ }
+{
+    let check = column_cause(l, bytes, p, i, x.len(), z.len(), column.len());
+    let need = dim(l, bytes);
+    if is_refused(check) {
+        return written_if(check, need as u64);
+    }
+    fill_f64(column, need, 0.0);
+    write(l, bytes, x, z, p, i, &mut column[..need]);
+    Written::Count(need as u64)
+}

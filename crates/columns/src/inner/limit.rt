@@ -1,0 +1,53 @@
+// The column of a branch's limit.
+use crate::inner::stores::value;
+use lists::inner::store_f64;
+use numbering::SocWrLayout;
+use numbering::Tally;
+use numbering::inner::nvar;
+use numbering::inner::tally::tally;
+use numbering::inner::thermal_base;
+use records::inner::thermal_limit_active;
+ghost use mathlib.Core.Path.{_≡_};
+ghost use mathlib.Core.List.{[], _∷_};
+ghost use Prim.Native.Nat.{_+_, _<_};
+ghost use lib.ListN.{getD};
+ghost use lib.Ieee.{nan};
+ghost use Rattle.lists.specs.UpTo.{each};
+ghost use Rattle.numbering.specs.Numbering.{rowNumber};
+ghost use Rattle.numbering.specs.declared.RowName.the-variants.{Thermal};
+ghost use Rattle.columns.specs.Stores.{put, storedAll};
+ghost use Rattle.columns.specs.Laid.{netOf, Laid};
+ghost use Rattle.columns.specs.Jacobian.{limitStores};
+
+// z at six rows from the base on.
+fn six(nvar: u32, base: usize, z: &[f64], column: &mut [f64])
+    requires { ⌜ base < 4294967296 ⌝ }
+    ensures { λ _. ⌜ now (column .exit) ≡ storedAll (each 6 (λ q. put (nvar + (base + q)) (getD (now (z .entry)) (base + q) nan) ∷ [])) (now (column .entry)) ⌝ }
+{
+    let start = nvar as usize;
+    for q in 0..6 {
+        store_f64(column, start + (base + q), value(z, base + q));
+    }
+}
+
+// The first of a limited branch's six rows.
+fn r_thermal(l: SocWrLayout, bytes: &[u8], e: usize) -> usize
+    requires { ⌜ Laid l (now bytes) ⌝ }
+    requires { ⌜ e < l .m ⌝ }
+    ensures { λ r. ⌜ r ≡ rowNumber (netOf l (now (bytes .entry))) (Thermal e 0) ⌝ }
+    ensures { λ r. ⌜ r < 4294967296 ⌝ }
+{
+    let rank = tally(bytes, Tally::Limited, l.n, e);
+    thermal_base(l) as usize + 6 * rank
+}
+
+// The cones' z, or nothing where the branch has no limit.
+pub fn line_limit(l: SocWrLayout, bytes: &[u8], e: usize, z: &[f64], column: &mut [f64])
+    requires { ⌜ Laid l (now bytes) ⌝ }
+    requires { ⌜ e < l .m ⌝ }
+    ensures { λ _. ⌜ now (column .exit) ≡ storedAll (limitStores (netOf l (now (bytes .entry))) (now (z .entry)) e) (now (column .entry)) ⌝ }
+{
+    if thermal_limit_active(bytes, l.n + e) {
+        six(nvar(l), r_thermal(l, bytes, e), z, column);
+    }
+}

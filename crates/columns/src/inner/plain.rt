@@ -1,0 +1,181 @@
+// The columns that need the layout alone: demand, bounds, cost and shunt.
+use crate::inner::stores::land;
+use crate::inner::stores::value;
+use interface::Bound;
+use interface::CostTerm;
+use interface::GB;
+use interface::Power;
+use lists::inner::store_f64;
+use numbering::SocWrLayout;
+use numbering::inner::col_pg;
+use numbering::inner::col_w;
+use numbering::inner::nvar;
+use numbering::inner::r_pbal;
+use numbering::inner::r_pglb;
+use numbering::inner::r_pgub;
+use numbering::inner::r_qbal;
+use numbering::inner::r_qglb;
+use numbering::inner::r_qgub;
+use numbering::inner::r_wlb;
+use numbering::inner::r_wub;
+ghost use mathlib.Core.Path.{_≡_};
+ghost use mathlib.Core.List.{[], _∷_};
+ghost use Prim.Native.Nat.{_+_, _<_};
+ghost use lib.ListN.{getD};
+ghost use lib.Ieee.{binary64, nan, mul};
+ghost use Rattle.numbering.specs.Layout.{InRange, layoutColumn, layoutRow};
+ghost use Rattle.numbering.specs.declared.ColumnName.the-variants.{Pg, W};
+ghost use Rattle.columns.specs.Stores.{put, plus, storedAll};
+ghost use Rattle.columns.specs.Jacobian.{minusOne64, demandRow, voltageRow, genRow, dbdp, costSlope, shuntRow, shuntEntry};
+ghost use Rattle.columns.specs.Places.{kktIn};
+
+pub fn demand_row(l: SocWrLayout, power: Power, i: usize) -> u32
+    requires { ⌜ InRange l ⌝ }
+    requires { ⌜ i < l .n ⌝ }
+    ensures { λ r. ⌜ r ≡ layoutRow l (demandRow power i) ⌝ }
+{
+    match power {
+        Power::Active => r_pbal(l, i),
+        Power::Reactive => r_qbal(l, i),
+    }
+}
+
+fn voltage_row(l: SocWrLayout, bound: Bound, i: usize) -> u32
+    requires { ⌜ InRange l ⌝ }
+    requires { ⌜ i < l .n ⌝ }
+    ensures { λ r. ⌜ r ≡ layoutRow l (voltageRow bound i) ⌝ }
+{
+    match bound {
+        Bound::Max => r_wub(l, i),
+        Bound::Min => r_wlb(l, i),
+    }
+}
+
+fn active_row(l: SocWrLayout, bound: Bound, g: usize) -> u32
+    requires { ⌜ InRange l ⌝ }
+    requires { ⌜ g < l .k ⌝ }
+    ensures { λ r. ⌜ r ≡ layoutRow l (genRow Power.Active bound g) ⌝ }
+{
+    match bound {
+        Bound::Max => r_pgub(l, g),
+        Bound::Min => r_pglb(l, g),
+    }
+}
+
+fn reactive_row(l: SocWrLayout, bound: Bound, g: usize) -> u32
+    requires { ⌜ InRange l ⌝ }
+    requires { ⌜ g < l .k ⌝ }
+    ensures { λ r. ⌜ r ≡ layoutRow l (genRow Power.Reactive bound g) ⌝ }
+{
+    match bound {
+        Bound::Max => r_qgub(l, g),
+        Bound::Min => r_qglb(l, g),
+    }
+}
+
+fn gen_row(l: SocWrLayout, power: Power, bound: Bound, g: usize) -> u32
+    requires { ⌜ InRange l ⌝ }
+    requires { ⌜ g < l .k ⌝ }
+    ensures { λ r. ⌜ r ≡ layoutRow l (genRow power bound g) ⌝ }
+{
+    match power {
+        Power::Active => active_row(l, bound, g),
+        Power::Reactive => reactive_row(l, bound, g),
+    }
+}
+
+fn dbdp(bound: Bound) -> f64
+    ensures { λ r. ⌜ r ≡ dbdp bound ⌝ }
+{
+    match bound {
+        Bound::Max => 1.0,
+        Bound::Min => -1.0,
+    }
+}
+
+fn cost_slope(term: CostTerm, pg: f64) -> f64
+    ensures { λ r. ⌜ r ≡ costSlope term pg ⌝ }
+{
+    match term {
+        CostTerm::Quadratic => 2.0 * pg,
+        CostTerm::Linear => 1.0,
+    }
+}
+
+fn shunt_row(l: SocWrLayout, gb: GB, i: usize) -> u32
+    requires { ⌜ InRange l ⌝ }
+    requires { ⌜ i < l .n ⌝ }
+    ensures { λ r. ⌜ r ≡ layoutRow l (shuntRow gb i) ⌝ }
+{
+    match gb {
+        GB::Conductance => r_pbal(l, i),
+        GB::Susceptance => r_qbal(l, i),
+    }
+}
+
+fn shunt_entry(gb: GB) -> f64
+    ensures { λ r. ⌜ r ≡ shuntEntry gb ⌝ }
+{
+    match gb {
+        GB::Conductance => -1.0,
+        GB::Susceptance => 1.0,
+    }
+}
+
+pub fn demand(l: SocWrLayout, power: Power, i: usize, column: &mut [f64])
+    requires { ⌜ InRange l ⌝ }
+    requires { ⌜ i < l .n ⌝ }
+    ensures { λ _. ⌜ now (column .exit) ≡ storedAll (put (kktIn l (demandRow power i)) minusOne64 ∷ []) (now (column .entry)) ⌝ }
+{
+    let row = demand_row(l, power, i) as usize;
+    store_f64(column, nvar(l) as usize + row, -1.0);
+}
+
+// A bound's row: z times db/dp.
+fn bound_at(nvar: u32, row: u32, bound: Bound, z: &[f64], column: &mut [f64])
+    ensures { λ _. ⌜ now (column .exit) ≡ storedAll (put (nvar + row) (mul binary64 (getD (now (z .entry)) row nan) (dbdp bound)) ∷ []) (now (column .entry)) ⌝ }
+{
+    let r = row as usize;
+    store_f64(column, nvar as usize + r, value(z, r) * dbdp(bound));
+}
+
+pub fn voltage_bound(l: SocWrLayout, bound: Bound, i: usize, z: &[f64], column: &mut [f64])
+    requires { ⌜ InRange l ⌝ }
+    requires { ⌜ i < l .n ⌝ }
+    ensures { λ _. ⌜ now (column .exit) ≡ storedAll (put (kktIn l (voltageRow bound i)) (mul binary64 (getD (now (z .entry)) (layoutRow l (voltageRow bound i)) nan) (dbdp bound)) ∷ []) (now (column .entry)) ⌝ }
+{
+    bound_at(nvar(l), voltage_row(l, bound, i), bound, z, column);
+}
+
+pub fn gen_bound(
+    l: SocWrLayout,
+    power: Power,
+    bound: Bound,
+    g: usize,
+    z: &[f64],
+    column: &mut [f64],
+)
+    requires { ⌜ InRange l ⌝ }
+    requires { ⌜ g < l .k ⌝ }
+    ensures { λ _. ⌜ now (column .exit) ≡ storedAll (put (kktIn l (genRow power bound g)) (mul binary64 (getD (now (z .entry)) (layoutRow l (genRow power bound g)) nan) (dbdp bound)) ∷ []) (now (column .entry)) ⌝ }
+{
+    bound_at(nvar(l), gen_row(l, power, bound, g), bound, z, column);
+}
+
+pub fn cost(l: SocWrLayout, term: CostTerm, g: usize, x: &[f64], column: &mut [f64])
+    requires { ⌜ InRange l ⌝ }
+    requires { ⌜ g < l .k ⌝ }
+    ensures { λ _. ⌜ now (column .exit) ≡ storedAll (put (layoutColumn l (Pg g)) (costSlope term (getD (now (x .entry)) (layoutColumn l (Pg g)) nan)) ∷ []) (now (column .entry)) ⌝ }
+{
+    let col = col_pg(l, g) as usize;
+    store_f64(column, col, cost_slope(term, value(x, col)));
+}
+
+pub fn shunt(l: SocWrLayout, gb: GB, i: usize, x: &[f64], z: &[f64], column: &mut [f64])
+    requires { ⌜ InRange l ⌝ }
+    requires { ⌜ i < l .n ⌝ }
+    ensures { λ _. ⌜ now (column .exit) ≡ storedAll (plus (kktIn l (shuntRow gb i)) (mul binary64 (shuntEntry gb) (getD (now (x .entry)) (layoutColumn l (W i)) nan)) ∷ plus (layoutColumn l (W i)) (mul binary64 (shuntEntry gb) (getD (now (z .entry)) (layoutRow l (shuntRow gb i)) nan)) ∷ []) (now (column .entry)) ⌝ }
+{
+    let row = shunt_row(l, gb, i);
+    land(column, nvar(l), row, col_w(l, i), shunt_entry(gb), x, z);
+}

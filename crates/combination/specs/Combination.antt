@@ -1,0 +1,45 @@
+-- Both combinations of `forward_adjoint` (sens/mod.rs) from a given solution.
+use Prim.Native.Nat.{ℕ, _+_, _*_}
+use mathlib.Core.List.{List, [], _∷_}
+use lib.ListN.{getD}
+use lib.Ieee.{Float, binary64, nan, ne, add, mul}
+use Rattle.lists.specs.UpTo.{each, listed, when}
+use Rattle.lists.specs.Steps.{through}
+use Rattle.lists.specs.Entries.{Cell, cell}
+use Rattle.interface.specs.declared.Mode.{Mode}
+use Rattle.interface.specs.declared.Mode.the-variants.{Forward, Adjoint, Auto}
+use Rattle.combination.specs.Magnitude.{zero64}
+use Rattle.combination.specs.Selectors.{itemsOf, itemOf}
+
+-- `acc += w * x[(r, c)]`, the column of x beginning at base
+unfoldable pub weigh : List Float → ℕ → Cell → Float → Float
+weigh x base t a = add binary64 a (mul binary64 (t .val) (getD x (base + t .row) nan))
+
+unfoldable pub weighed : List Float → ℕ → List Cell → Float → Float
+weighed x base ts a = through (weigh x base) ts a
+
+-- forward: `let mut acc = 0.0; for &(r, w) in entries ..; sign * acc`
+unfoldable pub forwardAt : ℕ → List ℕ → List ℕ → List Float → Float → List Float → ℕ → ℕ → Float
+forwardAt dim starts rows weights sign x o c = mul binary64 sign (weighed x (c * dim) (itemOf starts rows weights o) zero64)
+
+-- `(v != 0.0).then_some((r, v))`
+abbrev pub nonzeroAt : List Float → ℕ → ℕ → List Cell
+nonzeroAt rhs base r = when (ne (getD rhs (base + r) nan) zero64) (cell r (getD rhs (base + r) nan) ∷ [])
+
+-- `cols_nnz[c]`, the column beginning at base
+unfoldable pub nonzeros : ℕ → List Float → ℕ → List Cell
+nonzeros dim rhs base = each dim (nonzeroAt rhs base)
+
+-- adjoint: `let mut acc = 0.0; for &(r, v) in nnz ..; sign * acc`
+unfoldable pub adjointAt : ℕ → Float → List Float → List Float → ℕ → ℕ → Float
+adjointAt dim sign rhs y o c = mul binary64 sign (weighed y (o * dim) (nonzeros dim rhs (c * dim)) zero64)
+
+-- "Result item o, column c is at o × columns + c"
+unfoldable pub table : ℕ → ℕ → (ℕ → ℕ → Float) → List Float
+table items columns f = each items (λ o. listed columns (f o))
+
+-- mode Auto has none: it is refused
+unfoldable pub combination : Mode → ℕ → ℕ → List ℕ → List ℕ → List Float → Float → List Float → List Float → List Float
+combination Forward dim columns starts rows weights sign rhs x = table (itemsOf starts) columns (forwardAt dim starts rows weights sign x)
+combination Adjoint dim columns starts rows weights sign rhs x = table (itemsOf starts) columns (adjointAt dim sign rhs x)
+combination Auto dim columns starts rows weights sign rhs x = []

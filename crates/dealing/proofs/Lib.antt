@@ -1,0 +1,4 @@
+pub mod Dealing
+pub mod Counts
+pub mod Blurs
+pub mod Fills

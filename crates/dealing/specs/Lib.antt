@@ -1,0 +1,2 @@
+pub mod Deal
+pub mod Fill

@@ -1,0 +1,2 @@
+pub mod SeriesLaws
+pub mod ShuntLaws

@@ -1,0 +1,3 @@
+pub mod Formal
+pub mod Sums
+pub mod Raised

@@ -1,0 +1,1 @@
+// Laws of the columns: series and shunt entries are the derivatives of the program's coefficients.

@@ -1,0 +1,37 @@
+-- The rows that bound one thing each, and the Ohm rows, by kind.
+use Prim.Native.Nat.{ℕ}
+use Rattle.numbering.specs.declared.SocWrLayout.{SocWrLayout}
+use Rattle.numbering.specs.declared.RowName.{RowName}
+use Rattle.numbering.specs.declared.RowName.the-variants.{OhmPf, OhmQf, OhmPt, OhmQt}
+use Rattle.numbering.specs.declared.RowName.the-variants as RowName
+use Rattle.entries.specs.declared.Bound.{Bound}
+use Rattle.entries.specs.declared.Bound.the-variants.{Wub, Wlb, Pgub, Pglb, Qgub, Qglb, Angub, Anglb}
+use Rattle.entries.specs.declared.Flow.{Flow}
+use Rattle.entries.specs.declared.Flow.the-variants.{Pf, Qf, Pt, Qt}
+
+abbrev pub boundName : Bound → ℕ → RowName
+boundName Wub i = RowName.Wub i
+boundName Wlb i = RowName.Wlb i
+boundName Pgub i = RowName.Pgub i
+boundName Pglb i = RowName.Pglb i
+boundName Qgub i = RowName.Qgub i
+boundName Qglb i = RowName.Qglb i
+boundName Angub i = RowName.Angub i
+boundName Anglb i = RowName.Anglb i
+
+-- how many rows there are of the kind
+abbrev pub boundCount : SocWrLayout → Bound → ℕ
+boundCount l Wub = l .n
+boundCount l Wlb = l .n
+boundCount l Pgub = l .k
+boundCount l Pglb = l .k
+boundCount l Qgub = l .k
+boundCount l Qglb = l .k
+boundCount l Angub = l .m
+boundCount l Anglb = l .m
+
+abbrev pub flowName : Flow → ℕ → RowName
+flowName Pf e = OhmPf e
+flowName Qf e = OhmQf e
+flowName Pt e = OhmPt e
+flowName Qt e = OhmQt e

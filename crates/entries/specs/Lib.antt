@@ -1,0 +1,3 @@
+pub mod Writes
+pub mod Kinds
+pub mod Answer

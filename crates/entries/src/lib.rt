@@ -1,0 +1,168 @@
+// The entries of the KKT matrix, written to three lent lists.
+mod blocks;
+mod bounds;
+mod cones;
+mod ohm;
+mod segments;
+mod single;
+mod whole;
+
+use numbering::SocWrLayout;
+use refusals::Checked;
+use refusals::Refusal;
+use refusals::Written;
+use refusals::is_refused;
+use refusals::or_else;
+use refusals::refuse_unless;
+use refusals::room_for;
+use refusals::written_if;
+ghost use mathlib.Core.Path.{_≡_};
+ghost use lib.ListN.{length};
+ghost use Rattle.records.specs.Network.{networkOf};
+ghost use Rattle.numbering.specs.Layout.{InRange};
+ghost use Rattle.kkt.specs.Kkt.{kkt};
+ghost use Rattle.refusals.specs.Refusals.{_orElse_};
+ghost use Rattle.lines.specs.Line.{networkIn, Network};
+ghost use Rattle.entries.specs.Writes.{Given};
+ghost use Rattle.entries.specs.Answer.{solutionCause, roomCause, kktCheck, Answered, mostOf};
+
+// A float for each row of a cone.
+pub struct Quad {
+    pub a: f64,
+    pub b: f64,
+    pub c: f64,
+    pub d: f64,
+}
+
+// The kinds of rows that bound one thing each: a voltage, a dispatch, an angle.
+pub enum Bound {
+    Wub,
+    Wlb,
+    Pgub,
+    Pglb,
+    Qgub,
+    Qglb,
+    Angub,
+    Anglb,
+}
+
+// The kinds of Ohm rows.
+pub enum Flow {
+    Pf,
+    Qf,
+    Pt,
+    Qt,
+}
+
+fn most(l: SocWrLayout) -> usize
+    requires { ⌜ InRange l ⌝ }
+    ensures { λ r. ⌜ r ≡ mostOf l ⌝ }
+{
+    10 * l.n + 17 * l.k + 82 * l.m + 5 * l.s + 26 * l.t
+}
+
+fn solution_cause(l: SocWrLayout, bytes: &[u8], x: &[f64], z: &[f64]) -> Checked
+    requires { ⌜ Network l (now bytes) ⌝ }
+    ensures { λ r. ⌜ r ≡ solutionCause (networkIn l (now (bytes .entry))) (now (x .entry)) (now (z .entry)) ⌝ }
+{
+    let nvar = lines::inner::wide(numbering::inner::nvar(l));
+    let ncon = lines::inner::wide(numbering::inner::ncon(l));
+    or_else(
+        refuse_unless(x.len() == nvar, Refusal::SolutionLength(0)),
+        refuse_unless(z.len() == ncon, Refusal::SolutionLength(1)),
+    )
+}
+
+fn room_cause(need: usize, rows: &[u32], cols: &[u32], vals: &[f64]) -> Checked
+    ensures { λ r. ⌜ r ≡ roomCause need (now (rows .entry)) (now (cols .entry)) (now (vals .entry)) ⌝ }
+{
+    or_else(
+        room_for(need, rows.len()),
+        or_else(room_for(need, cols.len()), room_for(need, vals.len())),
+    )
+}
+
+// The list is counted before it is written.
+fn kkt_counted(
+    l: SocWrLayout,
+    bytes: &[u8],
+    x: &[f64],
+    z: &[f64],
+    rows: &mut [u32],
+    cols: &mut [u32],
+    vals: &mut [f64],
+) -> Written
+    requires { ⌜ Given l (now bytes) (now x) (now z) ⌝ }
+    ensures { λ w. ⌜ Answered (roomCause (length (kkt (networkIn l (now (bytes .entry))) (now (x .entry)) (now (z .entry)))) (now (rows .entry)) (now (cols .entry)) (now (vals .entry))) (kkt (networkIn l (now (bytes .entry))) (now (x .entry)) (now (z .entry))) (now (rows .entry)) (now (cols .entry)) (now (vals .entry)) (now (rows .exit)) (now (cols .exit)) (now (vals .exit)) w ⌝ }
+{
+    let need = whole::kkt_count(l, bytes, x, z);
+    let short = room_cause(need, rows, cols, vals);
+    if is_refused(short) {
+        return written_if(short, 0);
+    }
+    let count = whole::kkt_list(rows, cols, vals, 0, l, bytes, x, z);
+    Written::Count(count as u64)
+}
+
+// Slices that hold the most entries that there can be need no count.
+fn kkt_sized(
+    l: SocWrLayout,
+    bytes: &[u8],
+    x: &[f64],
+    z: &[f64],
+    rows: &mut [u32],
+    cols: &mut [u32],
+    vals: &mut [f64],
+) -> Written
+    requires { ⌜ Given l (now bytes) (now x) (now z) ⌝ }
+    ensures { λ w. ⌜ Answered (roomCause (length (kkt (networkIn l (now (bytes .entry))) (now (x .entry)) (now (z .entry)))) (now (rows .entry)) (now (cols .entry)) (now (vals .entry))) (kkt (networkIn l (now (bytes .entry))) (now (x .entry)) (now (z .entry))) (now (rows .entry)) (now (cols .entry)) (now (vals .entry)) (now (rows .exit)) (now (cols .exit)) (now (vals .exit)) w ⌝ }
+{
+    let room = room_cause(most(l), rows, cols, vals);
+    if is_refused(room) {
+        return kkt_counted(l, bytes, x, z, rows, cols, vals);
+    }
+    let count = whole::kkt_list(rows, cols, vals, 0, l, bytes, x, z);
+    Written::Count(count as u64)
+}
+
+fn kkt_checked(
+    l: SocWrLayout,
+    bytes: &[u8],
+    x: &[f64],
+    z: &[f64],
+    rows: &mut [u32],
+    cols: &mut [u32],
+    vals: &mut [f64],
+) -> Written
+    requires { ⌜ Network l (now bytes) ⌝ }
+    ensures { λ w. ⌜ Answered (solutionCause (networkIn l (now (bytes .entry))) (now (x .entry)) (now (z .entry)) orElse roomCause (length (kkt (networkIn l (now (bytes .entry))) (now (x .entry)) (now (z .entry)))) (now (rows .entry)) (now (cols .entry)) (now (vals .entry))) (kkt (networkIn l (now (bytes .entry))) (now (x .entry)) (now (z .entry))) (now (rows .entry)) (now (cols .entry)) (now (vals .entry)) (now (rows .exit)) (now (cols .exit)) (now (vals .exit)) w ⌝ }
+{
+    let sizes = solution_cause(l, bytes, x, z);
+    if is_refused(sizes) {
+        return written_if(sizes, 0);
+    }
+    kkt_sized(l, bytes, x, z, rows, cols, vals)
+}
+
+// The entries of the KKT matrix in the order of `ConicKkt::new`.
+pub fn kkt_entries(
+    n: usize,
+    m: usize,
+    k: usize,
+    s: usize,
+    bytes: &[u8],
+    x: &[f64],
+    z: &[f64],
+    rows: &mut [u32],
+    cols: &mut [u32],
+    vals: &mut [f64],
+) -> Written
+    ensures { λ w. ⌜ Answered (kktCheck n m k s (now (bytes .entry)) (now (x .entry)) (now (z .entry)) (now (rows .entry)) (now (cols .entry)) (now (vals .entry))) (kkt (networkOf n m k s (now (bytes .entry))) (now (x .entry)) (now (z .entry))) (now (rows .entry)) (now (cols .entry)) (now (vals .entry)) (now (rows .exit)) (now (cols .exit)) (now (vals .exit)) w ⌝ }
+{
+    let check = records::check_records(n, m, k, s, bytes);
+    if is_refused(check) {
+        return written_if(check, 0);
+    }
+    let l = numbering::inner::layout(n, m, k, s, bytes);
+    kkt_checked(l, bytes, x, z, rows, cols, vals)
+}

@@ -1,0 +1,197 @@
+// The parts of the list, each after the other.
+use crate::Bound;
+use crate::Flow;
+use crate::blocks::jabr_rows;
+use crate::blocks::put_quadratic;
+use crate::blocks::thermal_rows;
+use crate::bounds::bound_rows;
+use crate::ohm::ohm_rows;
+use crate::segments::segment_rows;
+use balance::inner::sorted::balance_rows;
+use numbering::SocWrLayout;
+ghost use mathlib.Core.Path.{_≡_};
+ghost use Prim.Native.Nat.{_+_, _*_, _<_, _^_};
+ghost use lib.ListN.{length};
+ghost use Rattle.lists.specs.Out.{out, Wrote};
+ghost use mathlib.Core.List.{map};
+ghost use Rattle.lists.specs.Entries.{turned};
+ghost use Rattle.rows.specs.Program.{equalities, inequalities, secondOrder, everyRow};
+ghost use Rattle.kkt.specs.Kkt.{plainRow, kkt};
+ghost use Rattle.lines.specs.Line.{networkIn, Network};
+ghost use Rattle.dealing.specs.Fill.{Ahead, Finished};
+ghost use Rattle.entries.specs.Writes.{Given, rowIn, coneIn, firstBounds, stationarity};
+
+// The rows of the zero cone.
+fn equality_rows(
+    rows: &mut [u32],
+    cols: &mut [u32],
+    vals: &mut [f64],
+    at: usize,
+    l: SocWrLayout,
+    bytes: &[u8],
+) -> usize
+    requires { ⌜ Network l (now bytes) ⌝ }
+    requires { ⌜ at + length (equalities (networkIn l (now bytes)) (plainRow (networkIn l (now bytes)))) + l .n < 2 ^ 31 ⌝ }
+    ensures { λ next. ⌜ Ahead (l .n) (equalities (networkIn l (now (bytes .entry))) (plainRow (networkIn l (now (bytes .entry))))) (now (rows .entry)) (now (cols .entry)) (now (vals .entry)) at (now (rows .exit)) (now (cols .exit)) (now (vals .exit)) next ⌝ }
+{
+    let n1 = balance_rows(rows, cols, vals, at, l, bytes, false);
+    let n2 = balance_rows(rows, cols, vals, n1, l, bytes, true);
+    let n3 = ohm_rows(rows, cols, vals, n2, l, bytes, Flow::Pf);
+    let n4 = ohm_rows(rows, cols, vals, n3, l, bytes, Flow::Qf);
+    let n5 = ohm_rows(rows, cols, vals, n4, l, bytes, Flow::Pt);
+    ohm_rows(rows, cols, vals, n5, l, bytes, Flow::Qt)
+}
+
+fn first_bounds(
+    rows: &mut [u32],
+    cols: &mut [u32],
+    vals: &mut [f64],
+    at: usize,
+    l: SocWrLayout,
+    bytes: &[u8],
+    x: &[f64],
+    z: &[f64],
+    d: bool,
+) -> usize
+    requires { ⌜ Given l (now bytes) (now x) (now z) ⌝ }
+    requires { ⌜ at + length (firstBounds (networkIn l (now bytes)) (rowIn (networkIn l (now bytes)) (now x) (now z) d)) < 2 ^ 64 ⌝ }
+    ensures { λ next. ⌜ Wrote (firstBounds (networkIn l (now (bytes .entry))) (rowIn (networkIn l (now (bytes .entry))) (now (x .entry)) (now (z .entry)) d)) (out (now (rows .entry)) (now (cols .entry)) (now (vals .entry)) at) (out (now (rows .exit)) (now (cols .exit)) (now (vals .exit)) next) ⌝ }
+{
+    let n1 = bound_rows(rows, cols, vals, at, l, bytes, x, z, d, Bound::Wub);
+    let n2 = bound_rows(rows, cols, vals, n1, l, bytes, x, z, d, Bound::Wlb);
+    let n3 = bound_rows(rows, cols, vals, n2, l, bytes, x, z, d, Bound::Pgub);
+    bound_rows(rows, cols, vals, n3, l, bytes, x, z, d, Bound::Pglb)
+}
+
+// The rows of the nonnegative cone, or the same rows as they are.
+fn inequality_rows(
+    rows: &mut [u32],
+    cols: &mut [u32],
+    vals: &mut [f64],
+    at: usize,
+    l: SocWrLayout,
+    bytes: &[u8],
+    x: &[f64],
+    z: &[f64],
+    d: bool,
+) -> usize
+    requires { ⌜ Given l (now bytes) (now x) (now z) ⌝ }
+    requires { ⌜ at + length (inequalities (networkIn l (now bytes)) (rowIn (networkIn l (now bytes)) (now x) (now z) d)) < 2 ^ 64 ⌝ }
+    ensures { λ next. ⌜ Wrote (inequalities (networkIn l (now (bytes .entry))) (rowIn (networkIn l (now (bytes .entry))) (now (x .entry)) (now (z .entry)) d)) (out (now (rows .entry)) (now (cols .entry)) (now (vals .entry)) at) (out (now (rows .exit)) (now (cols .exit)) (now (vals .exit)) next) ⌝ }
+{
+    let n1 = first_bounds(rows, cols, vals, at, l, bytes, x, z, d);
+    let n2 = bound_rows(rows, cols, vals, n1, l, bytes, x, z, d, Bound::Qgub);
+    let n3 = bound_rows(rows, cols, vals, n2, l, bytes, x, z, d, Bound::Qglb);
+    let n4 = bound_rows(rows, cols, vals, n3, l, bytes, x, z, d, Bound::Angub);
+    let n5 = bound_rows(rows, cols, vals, n4, l, bytes, x, z, d, Bound::Anglb);
+    segment_rows(rows, cols, vals, n5, l, bytes, x, z, d)
+}
+
+// The second-order cones, or the same rows as they are.
+fn cone_rows(
+    rows: &mut [u32],
+    cols: &mut [u32],
+    vals: &mut [f64],
+    at: usize,
+    l: SocWrLayout,
+    bytes: &[u8],
+    x: &[f64],
+    z: &[f64],
+    d: bool,
+) -> usize
+    requires { ⌜ Given l (now bytes) (now x) (now z) ⌝ }
+    requires { ⌜ at + length (secondOrder (networkIn l (now bytes)) (coneIn (networkIn l (now bytes)) (now x) (now z) d)) < 2 ^ 64 ⌝ }
+    ensures { λ next. ⌜ Wrote (secondOrder (networkIn l (now (bytes .entry))) (coneIn (networkIn l (now (bytes .entry))) (now (x .entry)) (now (z .entry)) d)) (out (now (rows .entry)) (now (cols .entry)) (now (vals .entry)) at) (out (now (rows .exit)) (now (cols .exit)) (now (vals .exit)) next) ⌝ }
+{
+    let n1 = jabr_rows(rows, cols, vals, at, l, bytes, x, z, d);
+    thermal_rows(rows, cols, vals, n1, l, bytes, x, z, d)
+}
+
+// All rows of A, as rows of the KKT matrix.
+fn program_rows(
+    rows: &mut [u32],
+    cols: &mut [u32],
+    vals: &mut [f64],
+    at: usize,
+    l: SocWrLayout,
+    bytes: &[u8],
+    x: &[f64],
+    z: &[f64],
+) -> usize
+    requires { ⌜ Given l (now bytes) (now x) (now z) ⌝ }
+    requires { ⌜ at + length (everyRow (networkIn l (now bytes)) (plainRow (networkIn l (now bytes)))) + l .n < 2 ^ 31 ⌝ }
+    ensures { λ next. ⌜ Ahead (l .n) (everyRow (networkIn l (now (bytes .entry))) (plainRow (networkIn l (now (bytes .entry))))) (now (rows .entry)) (now (cols .entry)) (now (vals .entry)) at (now (rows .exit)) (now (cols .exit)) (now (vals .exit)) next ⌝ }
+{
+    let n1 = equality_rows(rows, cols, vals, at, l, bytes);
+    let n2 = inequality_rows(rows, cols, vals, n1, l, bytes, x, z, false);
+    cone_rows(rows, cols, vals, n2, l, bytes, x, z, false)
+}
+
+// The transposed rows: the two slices of numbers are exchanged.
+fn turned_rows(
+    rows: &mut [u32],
+    cols: &mut [u32],
+    vals: &mut [f64],
+    at: usize,
+    l: SocWrLayout,
+    bytes: &[u8],
+    x: &[f64],
+    z: &[f64],
+) -> usize
+    requires { ⌜ Given l (now bytes) (now x) (now z) ⌝ }
+    requires { ⌜ at + length (map turned (everyRow (networkIn l (now bytes)) (plainRow (networkIn l (now bytes))))) + l .n < 2 ^ 31 ⌝ }
+    ensures { λ next. ⌜ Ahead (l .n) (map turned (everyRow (networkIn l (now (bytes .entry))) (plainRow (networkIn l (now (bytes .entry)))))) (now (rows .entry)) (now (cols .entry)) (now (vals .entry)) at (now (rows .exit)) (now (cols .exit)) (now (vals .exit)) next ⌝ }
+{
+    program_rows(cols, rows, vals, at, l, bytes, x, z)
+}
+
+// The list up to the rows of the zero cone.
+fn first_part(
+    rows: &mut [u32],
+    cols: &mut [u32],
+    vals: &mut [f64],
+    at: usize,
+    l: SocWrLayout,
+    bytes: &[u8],
+    x: &[f64],
+    z: &[f64],
+) -> usize
+    requires { ⌜ Given l (now bytes) (now x) (now z) ⌝ }
+    requires { ⌜ at + length (stationarity (networkIn l (now bytes))) + l .n < 2 ^ 31 ⌝ }
+    ensures { λ next. ⌜ Ahead (l .n) (stationarity (networkIn l (now (bytes .entry)))) (now (rows .entry)) (now (cols .entry)) (now (vals .entry)) at (now (rows .exit)) (now (cols .exit)) (now (vals .exit)) next ⌝ }
+{
+    let n1 = put_quadratic(rows, cols, vals, at, l, bytes);
+    let n2 = turned_rows(rows, cols, vals, n1, l, bytes, x, z);
+    equality_rows(rows, cols, vals, n2, l, bytes)
+}
+
+// The whole list.
+pub fn kkt_list(
+    rows: &mut [u32],
+    cols: &mut [u32],
+    vals: &mut [f64],
+    at: usize,
+    l: SocWrLayout,
+    bytes: &[u8],
+    x: &[f64],
+    z: &[f64],
+) -> usize
+    requires { ⌜ Given l (now bytes) (now x) (now z) ⌝ }
+    requires { ⌜ at + length (kkt (networkIn l (now bytes)) (now x) (now z)) + l .n < 2 ^ 31 ⌝ }
+    ensures { λ next. ⌜ Finished (kkt (networkIn l (now (bytes .entry))) (now (x .entry)) (now (z .entry))) (now (rows .entry)) (now (cols .entry)) (now (vals .entry)) at (now (rows .exit)) (now (cols .exit)) (now (vals .exit)) next ⌝ }
+{
+    let n1 = first_part(rows, cols, vals, at, l, bytes, x, z);
+    let n2 = inequality_rows(rows, cols, vals, n1, l, bytes, x, z, true);
+    cone_rows(rows, cols, vals, n2, l, bytes, x, z, true)
+}
+
+// How many entries the list has: they are written to places that are dropped.
+pub fn kkt_count(l: SocWrLayout, bytes: &[u8], x: &[f64], z: &[f64]) -> usize
+    requires { ⌜ Given l (now bytes) (now x) (now z) ⌝ }
+    ensures { λ r. ⌜ r ≡ length (kkt (networkIn l (now (bytes .entry))) (now (x .entry)) (now (z .entry))) ⌝ }
+{
+    let mut r = [0u32; 1];
+    let mut c = [0u32; 1];
+    let mut v = [0.0f64; 1];
+    kkt_list(&mut r, &mut c, &mut v, 0, l, bytes, x, z)
+}

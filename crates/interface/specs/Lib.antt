@@ -1,0 +1,4 @@
+pub mod Axes
+pub mod Scales
+pub mod Codes
+pub mod Selectors

@@ -1,0 +1,12 @@
+-- `lines::inner::angles::conic_angle_bound_active` meets its contract. Assumes nothing.
+use Rattle.records.specs.Fields.{angledOf}
+use borrow.Author.Needs.{needs}
+use Rattle.lines.proofs.inner.angles.conic_angle_bound_active.Statement.{statement}
+use Rattle.lines.proofs.inner.angles.conic_angle_bound_active.Tie as tie
+
+returns : tie.Need-returns
+unfolding angledOf
+returns c = cc
+
+pub conic-angle-bound-active-spec : {M : Type 1} → statement M
+conic-angle-bound-active-spec = tie.close (tie.spec (λ c κs. search needs) (λ c κs. search needs) (λ c κs. search needs) returns)

@@ -1,0 +1,60 @@
+// The rows by kind, of a network's layout and records.
+use crate::Line;
+use crate::Spot;
+ghost use mathlib.Core.Path.{_≡_};
+ghost use mathlib.Core.Bool.{cond};
+ghost use Rattle.lines.specs.Line.{spot as spotOf, line as lineOf, single as singleOf};
+
+pub mod angles;
+pub mod buses;
+pub mod cones;
+pub mod generators;
+pub mod ohm;
+
+pub fn spot(on: bool, col: u32, val: f64) -> Spot
+    ensures { λ r. ⌜ r ≡ spotOf on col val ⌝ }
+{
+    Spot { on, col, val }
+}
+
+pub fn single(row: u32, rhs: f64, on: bool, col: u32, val: f64) -> Line
+    ensures { λ r. ⌜ r ≡ singleOf row rhs on col val ⌝ }
+{
+    Line {
+        row,
+        rhs,
+        first: Spot {
+            on: false,
+            col,
+            val,
+        },
+        second: Spot { on, col, val },
+    }
+}
+
+pub fn line(row: u32, rhs: f64, first: Spot, second: Spot) -> Line
+    ensures { λ r. ⌜ r ≡ lineOf row rhs first second ⌝ }
+{
+    Line {
+        row,
+        rhs,
+        first,
+        second,
+    }
+}
+
+pub fn wide(x: u32) -> usize
+    ensures { λ r. ⌜ r ≡ x ⌝ }
+{
+    x as usize
+}
+
+// One of two numbers.
+pub fn pick(first: bool, a: f64, b: f64) -> f64
+    ensures { λ r. ⌜ r ≡ cond first a b ⌝ }
+{
+    if first {
+        return a;
+    }
+    b
+}

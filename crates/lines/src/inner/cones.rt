@@ -1,0 +1,103 @@
+// The second-order cones of a branch.
+use super::line;
+use super::single;
+use super::spot;
+use super::wide;
+use crate::Cone;
+use crate::Line;
+use numbering::SocWrLayout;
+use numbering::inner::col_pf;
+use numbering::inner::col_pt;
+use numbering::inner::col_qf;
+use numbering::inner::col_qt;
+use numbering::inner::col_w;
+use numbering::inner::col_wi;
+use numbering::inner::col_wr;
+use numbering::inner::r_jabr;
+use numbering::inner::thermal_base;
+use records::inner::br_from;
+use records::inner::br_to;
+use records::inner::rate_a;
+ghost use mathlib.Core.Path.{_≡_};
+ghost use mathlib.Core.Bool.{true};
+ghost use Prim.Native.Nat.{_+_, _*_, _<_, _^_};
+ghost use Rattle.lists.specs.UpTo.{count};
+ghost use Rattle.numbering.specs.declared.RowName.the-variants.{Jabr};
+ghost use Rattle.rows.specs.Program.{thermalFrom, thermalTo};
+ghost use Rattle.lines.specs.Line.{Network, networkIn, ends as endsOf, thermal as thermalOf, coneLine, ConeStands};
+
+// Row l of a cone.
+pub fn line_of(c: Cone, l: usize) -> Line
+    ensures { λ r. ⌜ r ≡ coneLine c l ⌝ }
+{
+    if l == 0 {
+        return c.a;
+    }
+    if l == 1 {
+        return c.b;
+    }
+    if l == 2 {
+        return c.c;
+    }
+    c.d
+}
+
+// -0.5 at the from bus and v at the to bus, the smaller number first.
+fn ends(l: SocWrLayout, bytes: &[u8], e: usize, row: u32, v: f64) -> Line
+    requires { ⌜ Network l (now bytes) ⌝ }
+    requires { ⌜ e < l .m ⌝ }
+    ensures { λ r. ⌜ r ≡ endsOf l (networkIn l (now (bytes .entry)) .from e) (networkIn l (now (bytes .entry)) .to e) row v ⌝ }
+{
+    let r = l.n + e;
+    let from = wide(br_from(bytes, r));
+    let to = wide(br_to(bytes, r));
+    let a = spot(true, col_w(l, from), -0.5);
+    let b = spot(true, col_w(l, to), v);
+    if from < to {
+        return line(row, 0.0, a, b);
+    }
+    line(row, 0.0, b, a)
+}
+
+pub fn jabr(l: SocWrLayout, bytes: &[u8], e: usize) -> Cone
+    requires { ⌜ Network l (now bytes) ⌝ }
+    requires { ⌜ e < l .m ⌝ }
+    ensures { λ r. ⌜ ConeStands (networkIn l (now (bytes .entry))) 4 (Jabr e) r ⌝ }
+{
+    let row = r_jabr(l, e);
+    let a = ends(l, bytes, e, row, -0.5);
+    let b = single(row + 1, 0.0, true, col_wr(l, e), -1.0);
+    let c = single(row + 2, 0.0, true, col_wi(l, e), -1.0);
+    let d = ends(l, bytes, e, row + 3, 0.5);
+    Cone { a, b, c, d }
+}
+
+// rate_a at the first row, then -1 at the flows p and q.
+fn thermal(row: u32, rate: f64, p: u32, q: u32) -> Cone
+    requires { ⌜ row + 2 < 2 ^ 32 ⌝ }
+    ensures { λ r. ⌜ r ≡ thermalOf row rate p q ⌝ }
+{
+    let a = single(row, rate, false, p, 0.0);
+    let b = single(row + 1, 0.0, true, p, -1.0);
+    let c = single(row + 2, 0.0, true, q, -1.0);
+    Cone { a, b, c, d: c }
+}
+
+// The cone at the from end of a limited branch; so many limited branches are before it.
+pub fn thermal_from(l: SocWrLayout, bytes: &[u8], e: usize, limits: usize) -> Cone
+    requires { ⌜ Network l (now bytes) ⌝ }
+    requires { ⌜ (e < l .m) × (networkIn l (now bytes) .limited e ≡ true) × (limits ≡ count e (networkIn l (now bytes) .limited)) ⌝ }
+    ensures { λ r. ⌜ ConeStands (networkIn l (now (bytes .entry))) 3 (thermalFrom e) r ⌝ }
+{
+    let row = thermal_base(l) + (6 * limits) as u32;
+    thermal(row, rate_a(bytes, l.n + e), col_pf(l, e), col_qf(l, e))
+}
+
+pub fn thermal_to(l: SocWrLayout, bytes: &[u8], e: usize, limits: usize) -> Cone
+    requires { ⌜ Network l (now bytes) ⌝ }
+    requires { ⌜ (e < l .m) × (networkIn l (now bytes) .limited e ≡ true) × (limits ≡ count e (networkIn l (now bytes) .limited)) ⌝ }
+    ensures { λ r. ⌜ ConeStands (networkIn l (now (bytes .entry))) 3 (thermalTo e) r ⌝ }
+{
+    let row = thermal_base(l) + (6 * limits + 3) as u32;
+    thermal(row, rate_a(bytes, l.n + e), col_pt(l, e), col_qt(l, e))
+}

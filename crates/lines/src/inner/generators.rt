@@ -1,0 +1,102 @@
+// The generators' bounds, and the segments of their costs.
+use super::line;
+use super::pick;
+use super::single;
+use super::spot;
+use crate::Line;
+use numbering::SocWrLayout;
+use numbering::inner::col_pg;
+use numbering::inner::col_qg;
+use numbering::inner::cost_base;
+use numbering::inner::r_pglb;
+use numbering::inner::r_pgub;
+use numbering::inner::r_qglb;
+use numbering::inner::r_qgub;
+use numbering::inner::segment_base;
+use records::inner::generator_capability_active;
+use records::inner::intercept;
+use records::inner::pmax;
+use records::inner::pmin;
+use records::inner::qmax;
+use records::inner::qmin;
+use records::inner::slope;
+ghost use mathlib.Core.Path.{_≡_};
+ghost use Prim.Native.Nat.{_<_};
+ghost use Rattle.lists.specs.UpTo.{sum, count};
+ghost use Rattle.numbering.specs.declared.RowName.the-variants.{Pgub, Pglb, Qgub, Qglb, Segment};
+ghost use Rattle.lines.specs.Line.{Network, networkIn, Stands};
+
+pub fn pgub(l: SocWrLayout, bytes: &[u8], g: usize) -> Line
+    requires { ⌜ Network l (now bytes) ⌝ }
+    requires { ⌜ g < l .k ⌝ }
+    ensures { λ r. ⌜ Stands (networkIn l (now (bytes .entry))) (Pgub g) r ⌝ }
+{
+    let r = l.n + l.m + g;
+    let on = generator_capability_active(bytes, r);
+    let x = pmax(bytes, r);
+    let rhs = pick(on, x, 1.0);
+    single(r_pgub(l, g), rhs, on, col_pg(l, g), 1.0)
+}
+
+pub fn pglb(l: SocWrLayout, bytes: &[u8], g: usize) -> Line
+    requires { ⌜ Network l (now bytes) ⌝ }
+    requires { ⌜ g < l .k ⌝ }
+    ensures { λ r. ⌜ Stands (networkIn l (now (bytes .entry))) (Pglb g) r ⌝ }
+{
+    let r = l.n + l.m + g;
+    let on = generator_capability_active(bytes, r);
+    let x = pmin(bytes, r);
+    let rhs = pick(on, -x, 1.0);
+    single(r_pglb(l, g), rhs, on, col_pg(l, g), -1.0)
+}
+
+pub fn qgub(l: SocWrLayout, bytes: &[u8], g: usize) -> Line
+    requires { ⌜ Network l (now bytes) ⌝ }
+    requires { ⌜ g < l .k ⌝ }
+    ensures { λ r. ⌜ Stands (networkIn l (now (bytes .entry))) (Qgub g) r ⌝ }
+{
+    let r = l.n + l.m + g;
+    let on = generator_capability_active(bytes, r);
+    let x = qmax(bytes, r);
+    let rhs = pick(on, x, 1.0);
+    single(r_qgub(l, g), rhs, on, col_qg(l, g), 1.0)
+}
+
+pub fn qglb(l: SocWrLayout, bytes: &[u8], g: usize) -> Line
+    requires { ⌜ Network l (now bytes) ⌝ }
+    requires { ⌜ g < l .k ⌝ }
+    ensures { λ r. ⌜ Stands (networkIn l (now (bytes .entry))) (Qglb g) r ⌝ }
+{
+    let r = l.n + l.m + g;
+    let on = generator_capability_active(bytes, r);
+    let x = qmin(bytes, r);
+    let rhs = pick(on, -x, 1.0);
+    single(r_qglb(l, g), rhs, on, col_qg(l, g), -1.0)
+}
+
+// Segment t of generator g; so many segments and cost columns are before the generator's.
+pub fn segment(
+    l: SocWrLayout,
+    bytes: &[u8],
+    g: usize,
+    t: usize,
+    segments: usize,
+    curves: usize,
+) -> Line
+    requires { ⌜ Network l (now bytes) ⌝ }
+    requires { ⌜ (g < l .k) × (t < networkIn l (now bytes) .segments g) ⌝ }
+    requires { ⌜ (segments ≡ sum g (networkIn l (now bytes) .segments)) × (curves ≡ count g (networkIn l (now bytes) .piecewise)) ⌝ }
+    ensures { λ r. ⌜ Stands (networkIn l (now (bytes .entry))) (Segment g t) r ⌝ }
+{
+    let r = l.n + l.m + l.k + segments + t;
+    let row = segment_base(l) + (segments + t) as u32;
+    let col = cost_base(l) + curves as u32;
+    let v = slope(bytes, r);
+    let rhs = -intercept(bytes, r);
+    line(
+        row,
+        rhs,
+        spot(v != 0.0, col_pg(l, g), v),
+        spot(true, col, -1.0),
+    )
+}

@@ -1,0 +1,135 @@
+// The Ohm rows of a branch.
+use super::wide;
+use crate::Ohm;
+use crate::Series;
+use numbering::SocWrLayout;
+use numbering::inner::col_pf;
+use numbering::inner::col_pt;
+use numbering::inner::col_qf;
+use numbering::inner::col_qt;
+use numbering::inner::col_w;
+use numbering::inner::col_wi;
+use numbering::inner::col_wr;
+use numbering::inner::r_ohm_pf;
+use numbering::inner::r_ohm_pt;
+use numbering::inner::r_ohm_qf;
+use numbering::inner::r_ohm_qt;
+use records::inner::b;
+use records::inner::b_fr;
+use records::inner::b_to;
+use records::inner::br_from;
+use records::inner::br_to;
+use records::inner::cos_shift;
+use records::inner::g;
+use records::inner::g_fr;
+use records::inner::g_to;
+use records::inner::sin_shift;
+use records::inner::tap;
+ghost use mathlib.Core.Path.{_≡_};
+ghost use Prim.Native.Nat.{_+_, _*_, _≤_, _<_};
+ghost use lib.ListN.{length};
+ghost use Rattle.numbering.specs.Layout.{InRange};
+ghost use Rattle.numbering.specs.declared.RowName.the-variants.{OhmPf, OhmQf, OhmPt, OhmQt};
+ghost use Rattle.lines.specs.Line.{Network, networkIn};
+ghost use Rattle.lines.specs.Ohm.{seriesOf, ohmOf, OhmStands};
+
+// The branch of record r.
+pub fn series(bytes: &[u8], r: usize) -> Series
+    requires { ⌜ 128 * r + 128 ≤ length (now bytes) ⌝ }
+    ensures { λ x. ⌜ x ≡ seriesOf (now (bytes .entry)) r ⌝ }
+{
+    let t = tap(bytes, r);
+    Series {
+        g: g(bytes, r),
+        b: b(bytes, r),
+        tr: t * cos_shift(bytes, r),
+        ti: t * sin_shift(bytes, r),
+        tm2: t * t,
+    }
+}
+
+fn ohm(
+    l: SocWrLayout,
+    e: usize,
+    bus: usize,
+    row: u32,
+    flow: u32,
+    at_w: f64,
+    at_wr: f64,
+    at_wi: f64,
+) -> Ohm
+    requires { ⌜ InRange l ⌝ }
+    requires { ⌜ (e < l .m) × (bus < l .n) ⌝ }
+    ensures { λ r. ⌜ r ≡ ohmOf l e bus row flow «at_w» «at_wr» «at_wi» ⌝ }
+{
+    Ohm {
+        row,
+        w: col_w(l, bus),
+        wr: col_wr(l, e),
+        wi: col_wi(l, e),
+        flow,
+        at_w,
+        at_wr,
+        at_wi,
+    }
+}
+
+pub fn ohm_pf(l: SocWrLayout, bytes: &[u8], e: usize) -> Ohm
+    requires { ⌜ Network l (now bytes) ⌝ }
+    requires { ⌜ e < l .m ⌝ }
+    ensures { λ r. ⌜ OhmStands (networkIn l (now (bytes .entry))) (OhmPf e) r ⌝ }
+{
+    let r = l.n + e;
+    let t = series(bytes, r);
+    let a = g_fr(bytes, r);
+    let w = -(t.g + a) / t.tm2;
+    let wr = -(-t.g * t.tr + t.b * t.ti) / t.tm2;
+    let wi = -(-t.b * t.tr - t.g * t.ti) / t.tm2;
+    let bus = wide(br_from(bytes, r));
+    ohm(l, e, bus, r_ohm_pf(l, e), col_pf(l, e), w, wr, wi)
+}
+
+pub fn ohm_qf(l: SocWrLayout, bytes: &[u8], e: usize) -> Ohm
+    requires { ⌜ Network l (now bytes) ⌝ }
+    requires { ⌜ e < l .m ⌝ }
+    ensures { λ r. ⌜ OhmStands (networkIn l (now (bytes .entry))) (OhmQf e) r ⌝ }
+{
+    let r = l.n + e;
+    let t = series(bytes, r);
+    let a = b_fr(bytes, r);
+    let w = (t.b + a) / t.tm2;
+    let wr = (-t.b * t.tr - t.g * t.ti) / t.tm2;
+    let wi = -(-t.g * t.tr + t.b * t.ti) / t.tm2;
+    let bus = wide(br_from(bytes, r));
+    ohm(l, e, bus, r_ohm_qf(l, e), col_qf(l, e), w, wr, wi)
+}
+
+pub fn ohm_pt(l: SocWrLayout, bytes: &[u8], e: usize) -> Ohm
+    requires { ⌜ Network l (now bytes) ⌝ }
+    requires { ⌜ e < l .m ⌝ }
+    ensures { λ r. ⌜ OhmStands (networkIn l (now (bytes .entry))) (OhmPt e) r ⌝ }
+{
+    let r = l.n + e;
+    let t = series(bytes, r);
+    let a = g_to(bytes, r);
+    let w = -(t.g + a);
+    let wr = -(-t.g * t.tr - t.b * t.ti) / t.tm2;
+    let wi = (-t.b * t.tr + t.g * t.ti) / t.tm2;
+    let bus = wide(br_to(bytes, r));
+    ohm(l, e, bus, r_ohm_pt(l, e), col_pt(l, e), w, wr, wi)
+}
+
+pub fn ohm_qt(l: SocWrLayout, bytes: &[u8], e: usize) -> Ohm
+    requires { ⌜ Network l (now bytes) ⌝ }
+    requires { ⌜ e < l .m ⌝ }
+    ensures { λ r. ⌜ OhmStands (networkIn l (now (bytes .entry))) (OhmQt e) r ⌝ }
+{
+    let r = l.n + e;
+    let t = series(bytes, r);
+    let a = b_to(bytes, r);
+    let w = t.b + a;
+    let wr = (-t.b * t.tr + t.g * t.ti) / t.tm2;
+    let wi = (-t.g * t.tr - t.b * t.ti) / t.tm2;
+    let bus = wide(br_to(bytes, r));
+    ohm(l, e, bus, r_ohm_qt(l, e), col_qt(l, e), w, wr, wi)
+}

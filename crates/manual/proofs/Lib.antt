@@ -1,0 +1,8 @@
+pub mod Formal
+pub mod RatioLaws
+pub mod OhmLaws
+pub mod BalanceLaws
+pub mod ConeLaws
+pub mod ZeroLaws
+pub mod Cones
+pub mod Documents

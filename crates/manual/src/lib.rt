@@ -1,0 +1,1 @@
+// What the program says, from the MATPOWER manual and from the form that Clarabel takes. No code.

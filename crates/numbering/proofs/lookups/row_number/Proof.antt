@@ -1,0 +1,13 @@
+-- `numbering::lookups::row_number` meets its contract. Assumes nothing.
+use mathlib.Core.Path.{ap, _∙_}
+use Rattle.numbering.specs.Lookups.{rowLookup}
+use Rattle.numbering.proofs.Names.{same-key}
+use borrow.Author.Needs.{needs}
+use Rattle.numbering.proofs.lookups.row_number.Statement.{statement}
+use Rattle.numbering.proofs.lookups.row_number.Tie as tie
+
+returns : tie.Need-returns
+returns c = let a = c .before .before .before .args in c .row-number-at .ensures ∙ ap (rowLookup (a .n) (a .m) (a .k) (a .s) (a .bytes .now)) (same-key (c .before .row-key .ensures))
+
+pub row-number-spec : {M : Type 1} → statement M
+row-number-spec = tie.close (tie.spec (λ c κs. search needs) (λ c κs. search needs) returns)

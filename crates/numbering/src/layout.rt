@@ -1,0 +1,301 @@
+// The layout's methods: each tests the layout handed in, and then the index.
+use crate::LayoutAnswer;
+use crate::Lookup;
+use crate::SocWrLayout;
+use crate::inner;
+use crate::inner::blocks;
+use refusals::Checked;
+use refusals::Refusal;
+use refusals::is_refused;
+use refusals::or_else;
+use refusals::refuse_unless;
+ghost use mathlib.Core.Path.{_≡_};
+ghost use Prim.Native.Nat.{_<_};
+ghost use Rattle.numbering.specs.Blocks.{key, before, total};
+ghost use Rattle.numbering.specs.Layout.{countedOf, layoutCause, layoutColumns, layoutRows, nEqOf, nIneqOf};
+ghost use Rattle.numbering.specs.Lookups.{afterCheck, inLayout, columnIn, rowIn, sizeIn, layoutAnswer, newLayout};
+ghost use Rattle.numbering.specs.declared.Lookup.the-variants.{Absent};
+ghost use Rattle.numbering.specs.declared.ColumnName.the-variants.{Pg, Qg, W, Wr, Wi, Pf, Pt, Qf, Qt};
+ghost use Rattle.numbering.specs.declared.RowName.the-variants.{Pbal, Qbal, OhmPf, OhmQf, OhmPt, OhmQt, Wub, Wlb, Pgub, Pglb, Qgub, Qglb, Angub, Anglb, Jabr};
+
+// A refused check as an answer.
+pub fn refused(check: Checked) -> Lookup
+    ensures { λ r. ⌜ r ≡ afterCheck check Absent ⌝ }
+{
+    match check {
+        Checked::Accepted => Lookup::Absent,
+        Checked::Refused(cause) => Lookup::Refused(cause),
+    }
+}
+
+fn no_layout(check: Checked) -> LayoutAnswer
+    ensures { λ r. ⌜ r ≡ layoutAnswer check (countedOf 0 0 0 0) ⌝ }
+{
+    match check {
+        Checked::Accepted => LayoutAnswer::Layout(inner::counted(0, 0, 0, 0)),
+        Checked::Refused(cause) => LayoutAnswer::Refused(cause),
+    }
+}
+
+impl SocWrLayout {
+    // The layout of a network, made from its counts and records.
+    pub fn new(n: usize, m: usize, k: usize, s: usize, bytes: &[u8]) -> LayoutAnswer
+        ensures { λ r. ⌜ r ≡ newLayout n m k s (now (bytes .entry)) ⌝ }
+    {
+        let check = records::check_records(n, m, k, s, bytes);
+        if is_refused(check) {
+            return no_layout(check);
+        }
+        LayoutAnswer::Layout(inner::layout(n, m, k, s, bytes))
+    }
+
+    // 1: the first of n, m, k, S, T, cost columns that is too large.
+    pub fn cause(self) -> Checked
+        ensures { λ r. ⌜ r ≡ layoutCause self ⌝ }
+    {
+        or_else(
+            records::count_cause(self.n, self.m, self.k, self.s),
+            or_else(
+                refuse_unless(self.t <= self.m, Refusal::CountTooLarge(4)),
+                refuse_unless(self.cost_columns <= self.k, Refusal::CountTooLarge(5)),
+            ),
+        )
+    }
+
+    // A column of a block whose records have one column each.
+    fn plain_column(self, block: usize, i: usize) -> Lookup
+        requires { ⌜ block < 9 ⌝ }
+        ensures { λ r. ⌜ r ≡ inLayout self (layoutColumns self) (key block i 0) ⌝ }
+    {
+        let cause = self.cause();
+        if is_refused(cause) {
+            return refused(cause);
+        }
+        let sizes = blocks::column_sizes(self);
+        if sizes[block] <= i {
+            return Lookup::Refused(Refusal::PastEnd(i as u64));
+        }
+        Lookup::Number((blocks::start_of(&sizes, block) + i) as u32)
+    }
+
+    // A row of a block whose records have one row each.
+    fn plain_row(self, block: usize, i: usize) -> Lookup
+        requires { ⌜ block < 14 ⌝ }
+        ensures { λ r. ⌜ r ≡ inLayout self (layoutRows self) (key block i 0) ⌝ }
+    {
+        let cause = self.cause();
+        if is_refused(cause) {
+            return refused(cause);
+        }
+        let sizes = blocks::row_sizes(self);
+        if sizes[block] <= i {
+            return Lookup::Refused(Refusal::PastEnd(i as u64));
+        }
+        Lookup::Number((blocks::start_of(&sizes, block) + i) as u32)
+    }
+
+    pub fn col_pg(self, g: usize) -> Lookup
+        ensures { λ r. ⌜ r ≡ columnIn self (Pg g) ⌝ }
+    {
+        self.plain_column(0, g)
+    }
+
+    pub fn col_qg(self, g: usize) -> Lookup
+        ensures { λ r. ⌜ r ≡ columnIn self (Qg g) ⌝ }
+    {
+        self.plain_column(1, g)
+    }
+
+    pub fn col_w(self, i: usize) -> Lookup
+        ensures { λ r. ⌜ r ≡ columnIn self (W i) ⌝ }
+    {
+        self.plain_column(2, i)
+    }
+
+    pub fn col_wr(self, e: usize) -> Lookup
+        ensures { λ r. ⌜ r ≡ columnIn self (Wr e) ⌝ }
+    {
+        self.plain_column(3, e)
+    }
+
+    pub fn col_wi(self, e: usize) -> Lookup
+        ensures { λ r. ⌜ r ≡ columnIn self (Wi e) ⌝ }
+    {
+        self.plain_column(4, e)
+    }
+
+    pub fn col_pf(self, e: usize) -> Lookup
+        ensures { λ r. ⌜ r ≡ columnIn self (Pf e) ⌝ }
+    {
+        self.plain_column(5, e)
+    }
+
+    pub fn col_pt(self, e: usize) -> Lookup
+        ensures { λ r. ⌜ r ≡ columnIn self (Pt e) ⌝ }
+    {
+        self.plain_column(6, e)
+    }
+
+    pub fn col_qf(self, e: usize) -> Lookup
+        ensures { λ r. ⌜ r ≡ columnIn self (Qf e) ⌝ }
+    {
+        self.plain_column(7, e)
+    }
+
+    pub fn col_qt(self, e: usize) -> Lookup
+        ensures { λ r. ⌜ r ≡ columnIn self (Qt e) ⌝ }
+    {
+        self.plain_column(8, e)
+    }
+
+    pub fn r_pbal(self, i: usize) -> Lookup
+        ensures { λ r. ⌜ r ≡ rowIn self (Pbal i) ⌝ }
+    {
+        self.plain_row(0, i)
+    }
+
+    pub fn r_qbal(self, i: usize) -> Lookup
+        ensures { λ r. ⌜ r ≡ rowIn self (Qbal i) ⌝ }
+    {
+        self.plain_row(1, i)
+    }
+
+    pub fn r_ohm_pf(self, e: usize) -> Lookup
+        ensures { λ r. ⌜ r ≡ rowIn self (OhmPf e) ⌝ }
+    {
+        self.plain_row(2, e)
+    }
+
+    pub fn r_ohm_qf(self, e: usize) -> Lookup
+        ensures { λ r. ⌜ r ≡ rowIn self (OhmQf e) ⌝ }
+    {
+        self.plain_row(3, e)
+    }
+
+    pub fn r_ohm_pt(self, e: usize) -> Lookup
+        ensures { λ r. ⌜ r ≡ rowIn self (OhmPt e) ⌝ }
+    {
+        self.plain_row(4, e)
+    }
+
+    pub fn r_ohm_qt(self, e: usize) -> Lookup
+        ensures { λ r. ⌜ r ≡ rowIn self (OhmQt e) ⌝ }
+    {
+        self.plain_row(5, e)
+    }
+
+    pub fn r_wub(self, i: usize) -> Lookup
+        ensures { λ r. ⌜ r ≡ rowIn self (Wub i) ⌝ }
+    {
+        self.plain_row(6, i)
+    }
+
+    pub fn r_wlb(self, i: usize) -> Lookup
+        ensures { λ r. ⌜ r ≡ rowIn self (Wlb i) ⌝ }
+    {
+        self.plain_row(7, i)
+    }
+
+    pub fn r_pgub(self, g: usize) -> Lookup
+        ensures { λ r. ⌜ r ≡ rowIn self (Pgub g) ⌝ }
+    {
+        self.plain_row(8, g)
+    }
+
+    pub fn r_pglb(self, g: usize) -> Lookup
+        ensures { λ r. ⌜ r ≡ rowIn self (Pglb g) ⌝ }
+    {
+        self.plain_row(9, g)
+    }
+
+    pub fn r_qgub(self, g: usize) -> Lookup
+        ensures { λ r. ⌜ r ≡ rowIn self (Qgub g) ⌝ }
+    {
+        self.plain_row(10, g)
+    }
+
+    pub fn r_qglb(self, g: usize) -> Lookup
+        ensures { λ r. ⌜ r ≡ rowIn self (Qglb g) ⌝ }
+    {
+        self.plain_row(11, g)
+    }
+
+    pub fn r_angub(self, e: usize) -> Lookup
+        ensures { λ r. ⌜ r ≡ rowIn self (Angub e) ⌝ }
+    {
+        self.plain_row(12, e)
+    }
+
+    pub fn r_anglb(self, e: usize) -> Lookup
+        ensures { λ r. ⌜ r ≡ rowIn self (Anglb e) ⌝ }
+    {
+        self.plain_row(13, e)
+    }
+
+    // The first of a branch's four rows.
+    pub fn r_jabr(self, e: usize) -> Lookup
+        ensures { λ r. ⌜ r ≡ rowIn self (Jabr e 0) ⌝ }
+    {
+        let cause = self.cause();
+        if is_refused(cause) {
+            return refused(cause);
+        }
+        if self.m <= e {
+            return Lookup::Refused(Refusal::PastEnd(e as u64));
+        }
+        Lookup::Number(inner::r_jabr(self, e))
+    }
+
+    // The rows of the zero cone, and of the nonnegative cone.
+    pub fn n_eq(self) -> Lookup
+        ensures { λ r. ⌜ r ≡ sizeIn self (nEqOf self) ⌝ }
+    {
+        let cause = self.cause();
+        if is_refused(cause) {
+            return refused(cause);
+        }
+        Lookup::Number(inner::n_eq(self))
+    }
+
+    pub fn n_ineq(self) -> Lookup
+        ensures { λ r. ⌜ r ≡ sizeIn self (nIneqOf self) ⌝ }
+    {
+        let cause = self.cause();
+        if is_refused(cause) {
+            return refused(cause);
+        }
+        Lookup::Number(inner::n_ineq(self))
+    }
+
+    // The columns, and the rows.
+    pub fn nvar(self) -> Lookup
+        ensures { λ r. ⌜ r ≡ sizeIn self (total (layoutColumns self)) ⌝ }
+    {
+        let cause = self.cause();
+        if is_refused(cause) {
+            return refused(cause);
+        }
+        Lookup::Number(inner::nvar(self))
+    }
+
+    pub fn ncon(self) -> Lookup
+        ensures { λ r. ⌜ r ≡ sizeIn self (total (layoutRows self)) ⌝ }
+    {
+        let cause = self.cause();
+        if is_refused(cause) {
+            return refused(cause);
+        }
+        Lookup::Number(inner::ncon(self))
+    }
+
+    // The first row of the second-order cones.
+    pub fn soc_base(self) -> Lookup
+        ensures { λ r. ⌜ r ≡ sizeIn self (before (layoutRows self) 15) ⌝ }
+    {
+        let cause = self.cause();
+        if is_refused(cause) {
+            return refused(cause);
+        }
+        Lookup::Number(inner::soc_base(self))
+    }
+}

@@ -1,0 +1,178 @@
+-- Laws of the checks and of the lists that are read. Assumes nothing.
+use Prim.Native.Nat.{ℕ, zero, suc, _+_, _≤_, _<_}
+use mathlib.Core.Path.{_≡_, refl, sym, _∙_, ap, ap₂, subst}
+use mathlib.Core.Bool.{Bool, true, false}
+use mathlib.Core.List.{List, [], _∷_, _++_}
+use native.Mathlib.Omega.{arith}
+use borrow.Author.Tests.{eqb-true, leb-true, lt-ltb, le-ltb}
+use lib.Dec.{T, eqb, ltb}
+use lib.ListN.{length, take, drop, getD, length-take, length-drop}
+use lib.Seq.{ext-getD, getD-take, getD-drop}
+use lib.Ieee.{Float, nan, neg}
+use Rattle.lists.specs.UpTo.{sum, listed, overlay}
+use Rattle.lists.proofs.Each.{each-ext}
+use Rattle.lists.proofs.Listed.{listed-length, listed-at}
+use Rattle.refusals.specs.Refusals.{_orElse_, isRefused, refuseUnless, leftIn}
+use Rattle.refusals.specs.declared.Checked.{Checked}
+use Rattle.refusals.specs.declared.Checked.the-variants.{Accepted, Refused}
+use Rattle.refusals.specs.declared.Refusal.{Refusal}
+use Rattle.refusals.specs.declared.Refusal.the-variants.{SolutionLength, PastEnd}
+use Rattle.refusals.proofs.Laws.{passed, orElse-accepted, test-held, left-written}
+use Rattle.records.specs.AcNetwork.{AcNetwork}
+use Rattle.records.specs.Network.{networkOf}
+use Rattle.records.specs.Network as Network
+use Rattle.records.specs.Check.{checkOf}
+use Rattle.records.proofs.Laws.{accepted}
+use Rattle.numbering.specs.Blocks.{total}
+use Rattle.numbering.specs.Numbering.{nvar, ncon, columnNumber}
+use Rattle.numbering.specs.Layout.{layoutOf, layoutColumns, layoutRows}
+use Rattle.numbering.specs.declared.SocWrLayout.{SocWrLayout}
+use Rattle.numbering.proofs.Layouts.{nvar-layout, ncon-layout}
+use Rattle.reading.specs.Reading.{xCause, zCause, partColumn, partCount, partList, partIf, partCheck, partOf, pricesCheck, priceList, scalarIf, objectiveOf, objectiveAt}
+use Rattle.reading.specs.declared.SolutionList.{SolutionList}
+use Rattle.reading.specs.declared.SolutionList.the-variants as SolutionList
+use Rattle.reading.specs.declared.PreparedObjective.the-variants.{Other}
+use Rattle.reading.specs.declared.Scalar.{Scalar}
+use Rattle.reading.specs.declared.Scalar.the-variants as Scalar
+
+-- ---- the lengths, from a layout
+module _ (G : AcNetwork Float) (l : SocWrLayout) (e : l ≡ layoutOf G) where
+  pub x-length : (x : List Float) (v : ℕ) → v ≡ total (layoutColumns l) → refuseUnless (eqb (length x) v) (SolutionLength 0) ≡ xCause G x
+  unfolding xCause
+  x-length x v f =
+      let h : v ≡ nvar G = f ∙ ap (λ (l : SocWrLayout). total (layoutColumns l)) e ∙ nvar-layout G in
+      rw h
+
+  pub z-length : sum (G .k) (G .segments) ≡ G .s → (z : List Float) (v : ℕ) → v ≡ total (layoutRows l)
+      → refuseUnless (eqb (length z) v) (SolutionLength 1) ≡ zCause G z
+  unfolding zCause
+  z-length add z v f =
+      let h : v ≡ ncon G = f ∙ ap (λ (l : SocWrLayout). total (layoutRows l)) e ∙ ncon-layout G add in
+      rw h
+
+-- ---- what an accepted reading has
+pub long-enough : (G : AcNetwork Float) (x : List Float) → xCause G x ≡ Accepted → length x ≡ nvar G
+unfolding xCause
+long-enough G x h = eqb-true _ _ (test-held _ _ h)
+
+pub duals-enough : (G : AcNetwork Float) (z : List Float) → zCause G z ≡ Accepted → length z ≡ ncon G
+unfolding zCause
+duals-enough G z h = eqb-true _ _ (test-held _ _ h)
+
+module _ (n m k s : ℕ) (b : List ℕ) where
+  abbrev G : AcNetwork Float
+  G = networkOf n m k s b
+
+  -- a check r that did not refuse
+  pub went : {r : Checked} → r ≡ checkOf n m k s b → isRefused r ≡ false → Network.Accepted n m k s b
+  went {r} e h = accepted n m k s b (sym e ∙ passed r h)
+
+  pub part-went : (x : List Float) {r : Checked} → r ≡ partCheck n m k s b x → isRefused r ≡ false → Network.Accepted n m k s b × (length x ≡ nvar G)
+  unfolding partCheck
+  part-went x {r} e h =
+      let p = orElse-accepted _ _ (sym e ∙ passed r h) in
+      (accepted n m k s b (p .0), long-enough G x (p .1))
+
+-- ---- a part of x
+no-part : (r : Checked) (xs : List Float) → isRefused r ≡ true → _≡_ {A = List Float} [] (partIf r xs)
+unfolding partIf isRefused
+no-part Accepted xs h = absurd (subst T (sym h) tt)
+no-part (Refused cause) xs h = refl
+
+-- count values from the start on
+values : (x : List Float) (at count : ℕ) → at + count ≤ length x → take count (drop at x) ≡ listed count (λ i. getD x (at + i) nan)
+values x at count h =
+    let l : length (take count (drop at x)) ≡ count = simp (length-take, length-drop) (omega arith) in
+    ext-getD nan _ _ (l ∙ sym (listed-length _ count))
+    (λ i b. getD-take count (drop at x) i nan (omega arith) ∙ getD-drop at x i nan ∙ sym (listed-at (λ i. getD x (at + i) nan) count i nan (omega arith)))
+
+module _ (n m k s : ℕ) (b : List ℕ) where
+  abbrev start : SolutionList → ℕ
+  start p = columnNumber (networkOf n m k 0 []) (partColumn p 0)
+
+  in-order : (p : SolutionList) (i : ℕ) → start p + i ≡ columnNumber (networkOf n m k s b) (partColumn p i)
+  in-order SolutionList.Pg i = omega arith
+  in-order SolutionList.Qg i = omega arith
+  in-order SolutionList.W i = omega arith
+  in-order SolutionList.Wr i = omega arith
+  in-order SolutionList.Wi i = omega arith
+  in-order SolutionList.Pf i = omega arith
+  in-order SolutionList.Pt i = omega arith
+  in-order SolutionList.Qf i = omega arith
+  in-order SolutionList.Qt i = omega arith
+
+  pub part-fits : (p : SolutionList) → start p + partCount n m k p ≤ nvar (networkOf n m k s b)
+  part-fits SolutionList.Pg = omega arith
+  part-fits SolutionList.Qg = omega arith
+  part-fits SolutionList.W = omega arith
+  part-fits SolutionList.Wr = omega arith
+  part-fits SolutionList.Wi = omega arith
+  part-fits SolutionList.Pf = omega arith
+  part-fits SolutionList.Pt = omega arith
+  part-fits SolutionList.Qf = omega arith
+  part-fits SolutionList.Qt = omega arith
+
+  part-is : (x : List Float) (p : SolutionList) → length x ≡ nvar (networkOf n m k s b)
+      → take (partCount n m k p) (drop (start p) x) ≡ partList (networkOf n m k s b) x p
+  unfolding partList
+  part-is x p h =
+      values x (start p) (partCount n m k p) (omega (arith, part-fits p))
+      ∙ each-ext (λ i. getD x (start p + i) nan ∷ []) (λ i. getD x (columnNumber (networkOf n m k s b) (partColumn p i)) nan ∷ []) (partCount n m k p) (λ i b. rw (in-order p i))
+
+  -- read, and refused
+  pub part-read : (x : List Float) (p : SolutionList) (at count : ℕ) {r : Checked} → r ≡ partCheck n m k s b x → isRefused r ≡ false
+      → at ≡ start p → count ≡ partCount n m k p → take count (drop at x) ≡ partOf n m k s b x p
+  unfolding partOf partIf
+  part-read x p at count {r} e h f g =
+      rw (sym e ∙ passed r h, f, g) (part-is x p (part-went n m k s b x e h .1))
+
+  pub part-refused : (x : List Float) (p : SolutionList) {r : Checked} → r ≡ partCheck n m k s b x → isRefused r ≡ true → _≡_ {A = List Float} [] (partOf n m k s b x p)
+  unfolding partOf
+  part-refused x p e h = rw (← e) (no-part _ _ h)
+
+-- ---- the prices
+module _ (n m k s : ℕ) (b : List ℕ) where
+  pub prices-went : (z : List Float) (room : ℕ) → pricesCheck n m k s b z room ≡ Accepted → Network.Accepted n m k s b × (n + n ≤ length z) × (n + n ≤ room)
+  unfolding pricesCheck
+  prices-went z room h =
+      let p = orElse-accepted _ _ h in
+      let q = orElse-accepted _ _ (p .1) in
+      (accepted n m k s b (p .0), omega (arith, duals-enough (networkOf n m k s b) z (q .0)), leb-true _ _ (test-held _ _ (q .1)))
+
+  price-list : (z : List Float) → listed n (λ i. neg (getD z i nan)) ++ listed n (λ i. neg (getD z (n + i) nan)) ≡ priceList (networkOf n m k s b) z
+  unfolding priceList
+  price-list z = ap₂ _++_ (each-ext _ _ n (λ i l. same i _ (omega arith))) (each-ext _ _ n (λ i l. same (n + i) _ (omega arith)))
+    where
+      same : (i j : ℕ) → i ≡ j → _≡_ {A = List Float} (neg (getD z i nan) ∷ []) (neg (getD z j nan) ∷ [])
+      same i j e = rw e
+
+  pub prices-left : (z ys out : List Float) {c : Checked} → c ≡ Accepted
+      → out ≡ overlay (listed n (λ i. neg (getD z i nan)) ++ listed n (λ i. neg (getD z (n + i) nan))) ys → out ≡ leftIn c (priceList (networkOf n m k s b) z) ys
+  prices-left z ys out e h = h ∙ ap (λ (xs : List Float). overlay xs ys) (price-list z) ∙ sym (left-written _ ys e)
+
+-- ---- the objective
+pub no-scalar : (c : Checked) (v w : Float) → isRefused c ≡ true → scalarIf c v ≡ scalarIf c w
+unfolding isRefused scalarIf
+no-scalar Accepted v w h = absurd (subst T (sym h) tt)
+no-scalar (Refused cause) v w h = refl
+
+pub scalar-value : {c : Checked} (v : Float) → c ≡ Accepted → scalarIf c v ≡ Scalar.Value v
+unfolding scalarIf
+scalar-value v e = rw e
+
+-- a check with one more after it, that refuses or passes
+pub code-refused : (a : Checked) (code : ℕ) → 3 ≤ code → isRefused (a orElse refuseUnless (ltb code 3) (PastEnd code)) ≡ true
+unfolding isRefused refuseUnless _orElse_
+code-refused Accepted code h = rw (le-ltb code 3 h)
+code-refused (Refused cause) code h = refl
+
+pub code-passed : (a : Checked) (code : ℕ) → code < 3 → a orElse refuseUnless (ltb code 3) (PastEnd code) ≡ a
+unfolding refuseUnless _orElse_
+code-passed Accepted code h = rw (lt-ltb code 3 h)
+code-passed (Refused cause) code h = refl
+
+pub code-other : (c : ℕ) → (c ≡ 0 → ⊥) → (c ≡ 1 → ⊥) → Other ≡ objectiveAt c
+unfolding objectiveAt
+code-other zero f g = absurd (f refl)
+code-other (suc zero) f g = absurd (g refl)
+code-other (suc (suc c)) f g = refl

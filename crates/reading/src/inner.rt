@@ -1,0 +1,4 @@
+// What the entries do once their checks have passed.
+pub mod cost;
+pub mod fill;
+pub mod lengths;

@@ -1,0 +1,96 @@
+// The objective's value.
+use crate::PreparedObjective;
+use crate::Scalar;
+use crate::inner::cost;
+use crate::part_check;
+use refusals::Checked;
+use refusals::Refusal;
+use refusals::is_refused;
+use refusals::or_else;
+use refusals::refuse_unless;
+ghost use mathlib.Core.Path.{_≡_};
+ghost use Prim.Native.Nat.{_≤_};
+ghost use lib.ListN.{length};
+ghost use Rattle.records.specs.Network.{Accepted, networkOf};
+ghost use Rattle.reading.specs.Reading.{scalarIf, objectiveOf, objectiveAnswer, objectiveAt, codeAnswer};
+
+fn scalar_if(check: Checked, v: f64) -> Scalar
+    ensures { λ r. ⌜ r ≡ scalarIf check v ⌝ }
+{
+    match check {
+        Checked::Accepted => Scalar::Value(v),
+        Checked::Refused(cause) => Scalar::Refused(cause),
+    }
+}
+
+fn value(
+    n: usize,
+    m: usize,
+    k: usize,
+    s: usize,
+    bytes: &[u8],
+    objective: PreparedObjective,
+    x: &[f64],
+    solver: f64,
+) -> f64
+    requires { ⌜ Accepted n m k s (now bytes) ⌝ }
+    requires { ⌜ k ≤ length (now x) ⌝ }
+    ensures { λ r. ⌜ r ≡ objectiveOf (networkOf n m k s (now (bytes .entry))) objective (now (x .entry)) solver ⌝ }
+{
+    match objective {
+        PreparedObjective::Feasibility => 0.0,
+        PreparedObjective::NetworkGeneratorCost => cost::total_cost(n, m, k, s, bytes, x),
+        PreparedObjective::Other => solver,
+    }
+}
+
+// 0 for feasibility, the generators' cost, or else the solver's number.
+pub fn objective(
+    n: usize,
+    m: usize,
+    k: usize,
+    s: usize,
+    bytes: &[u8],
+    objective: PreparedObjective,
+    x: &[f64],
+    solver: f64,
+) -> Scalar
+    ensures { λ r. ⌜ r ≡ objectiveAnswer n m k s (now (bytes .entry)) objective (now (x .entry)) solver ⌝ }
+{
+    let check = part_check(n, m, k, s, bytes, x);
+    if is_refused(check) {
+        return scalar_if(check, 0.0);
+    }
+    Scalar::Value(value(n, m, k, s, bytes, objective, x, solver))
+}
+
+// The objective that a caller's code names; 3 and above name nothing.
+fn objective_at(code: u64) -> PreparedObjective
+    ensures { λ r. ⌜ r ≡ objectiveAt code ⌝ }
+{
+    match code {
+        0 => PreparedObjective::Feasibility,
+        1 => PreparedObjective::NetworkGeneratorCost,
+        _ => PreparedObjective::Other,
+    }
+}
+
+// The same, of the objective with that code.
+pub fn objective_of_code(
+    n: usize,
+    m: usize,
+    k: usize,
+    s: usize,
+    bytes: &[u8],
+    code: u64,
+    x: &[f64],
+    solver: f64,
+) -> Scalar
+    ensures { λ r. ⌜ r ≡ codeAnswer n m k s (now (bytes .entry)) code (now (x .entry)) solver ⌝ }
+{
+    if 3 <= code {
+        let unnamed = Checked::Refused(Refusal::PastEnd(code));
+        return scalar_if(or_else(part_check(n, m, k, s, bytes, x), unnamed), solver);
+    }
+    objective(n, m, k, s, bytes, objective_at(code), x, solver)
+}

@@ -1,0 +1,1 @@
+// Whole numbers: polynomial identities that are decided by computing, and the order.

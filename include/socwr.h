@@ -1,0 +1,209 @@
+/* SOCWR on the small controller: the entries of libkernel.a, for C99 and C++.
+   A slice is a pointer and then its length in elements; a length of 0 may come with any pointer.
+   A refusal changes nothing lent; output past the length needed is unchanged. */
+#ifndef SOCWR_H
+#define SOCWR_H
+
+#include <stdint.h>
+
+#ifdef __cplusplus
+extern "C" {
+#endif
+
+/* What a lookup answers where there is nothing to name. */
+#define SOCWR_NONE UINT64_MAX
+
+/* The most that is taken. */
+#define SOCWR_MOST_BUSES 4096
+#define SOCWR_MOST_BRANCHES 8192
+#define SOCWR_MOST_GENERATORS 4096
+#define SOCWR_MOST_SEGMENTS 65536
+#define SOCWR_MOST_COLUMNS 65536
+#define SOCWR_MOST_DIM 294912
+#define SOCWR_RECORD_BYTES 128
+
+/* number 0: answered, and value is the answer; else the number of the cause and the value it returns. */
+typedef struct socwr_answer {
+    uint64_t number, value;
+} socwr_answer;
+
+/* result is the answer, 0.0 on a refusal. */
+typedef struct socwr_scalar {
+    uint64_t number, value;
+    double result;
+} socwr_scalar;
+
+/* The last six are 0 on a refusal. t counts the branches with an active thermal limit. */
+typedef struct socwr_sizes {
+    uint64_t number, value, n_eq, n_ineq, nvar, ncon, t, cost_columns;
+} socwr_sizes;
+
+/* The last three are 0 on a refusal. */
+typedef struct socwr_name {
+    uint64_t number, value, block, index, place;
+} socwr_name;
+
+/* The blocks of columns. */
+enum {
+    SOCWR_COLUMN_PG,
+    SOCWR_COLUMN_QG,
+    SOCWR_COLUMN_W,
+    SOCWR_COLUMN_WR,
+    SOCWR_COLUMN_WI,
+    SOCWR_COLUMN_PF,
+    SOCWR_COLUMN_PT,
+    SOCWR_COLUMN_QF,
+    SOCWR_COLUMN_QT,
+    SOCWR_COLUMN_COST
+};
+
+/* The blocks of rows. */
+enum {
+    SOCWR_ROW_PBAL,
+    SOCWR_ROW_QBAL,
+    SOCWR_ROW_OHM_PF,
+    SOCWR_ROW_OHM_QF,
+    SOCWR_ROW_OHM_PT,
+    SOCWR_ROW_OHM_QT,
+    SOCWR_ROW_WUB,
+    SOCWR_ROW_WLB,
+    SOCWR_ROW_PGUB,
+    SOCWR_ROW_PGLB,
+    SOCWR_ROW_QGUB,
+    SOCWR_ROW_QGLB,
+    SOCWR_ROW_ANGUB,
+    SOCWR_ROW_ANGLB,
+    SOCWR_ROW_COST,
+    SOCWR_ROW_JABR,
+    SOCWR_ROW_THERMAL
+};
+
+enum {
+    SOCWR_DEMAND_ACTIVE,
+    SOCWR_DEMAND_REACTIVE,
+    SOCWR_COST_QUADRATIC,
+    SOCWR_COST_LINEAR,
+    SOCWR_LINE_LIMIT,
+    SOCWR_SERIES_CONDUCTANCE,
+    SOCWR_SERIES_SUSCEPTANCE,
+    SOCWR_SHUNT_CONDUCTANCE,
+    SOCWR_SHUNT_SUSCEPTANCE,
+    SOCWR_VOLTAGE_MIN,
+    SOCWR_VOLTAGE_MAX,
+    SOCWR_GEN_ACTIVE_MIN,
+    SOCWR_GEN_ACTIVE_MAX,
+    SOCWR_GEN_REACTIVE_MIN,
+    SOCWR_GEN_REACTIVE_MAX,
+    SOCWR_TRANSFORMER_RATIO,
+    SOCWR_TRANSFORMER_PHASE_SHIFT,
+    SOCWR_SWITCHING,
+    SOCWR_CONSTRAINT_LIMIT
+};
+
+enum {
+    SOCWR_PRICE_ACTIVE,
+    SOCWR_PRICE_REACTIVE,
+    SOCWR_DISPATCH_ACTIVE,
+    SOCWR_DISPATCH_REACTIVE,
+    SOCWR_FLOW_ACTIVE_FROM,
+    SOCWR_FLOW_ACTIVE_TO,
+    SOCWR_FLOW_REACTIVE_FROM,
+    SOCWR_FLOW_REACTIVE_TO,
+    SOCWR_VOLTAGE_MAGNITUDE,
+    SOCWR_VOLTAGE_ANGLE,
+    SOCWR_VOLTAGE_SQUARED,
+    SOCWR_VOLTAGE_PRODUCT_REAL,
+    SOCWR_VOLTAGE_PRODUCT_IMAG
+};
+
+enum { SOCWR_FORWARD, SOCWR_ADJOINT, SOCWR_AUTO };
+
+/* Records and numbering. n, m, k, s count the buses, branches, generators and segments in records. */
+
+/* Whether the records are accepted. */
+socwr_answer socwr_check_records(uint64_t n, uint64_t m, uint64_t k, uint64_t s,
+                                 const uint8_t *records, uint64_t records_len);
+
+/* The sizes of the program. */
+socwr_sizes socwr_layout_new(uint64_t n, uint64_t m, uint64_t k, uint64_t s,
+                             const uint8_t *records, uint64_t records_len);
+
+/* The number of a column; SOCWR_NONE for a generator without cost column. */
+socwr_answer socwr_column_number(uint64_t n, uint64_t m, uint64_t k, uint64_t s,
+                                 const uint8_t *records, uint64_t records_len,
+                                 uint64_t block, uint64_t index);
+
+/* The number of a row. place is the segment in cost, 0..3 in jabr, 0..5 in thermal, else 0.
+   SOCWR_NONE for a generator without cost rows and for a branch without limit. */
+socwr_answer socwr_row_number(uint64_t n, uint64_t m, uint64_t k, uint64_t s,
+                              const uint8_t *records, uint64_t records_len,
+                              uint64_t block, uint64_t index, uint64_t place);
+
+/* The name of a column, and of a row. */
+socwr_name socwr_column_name(uint64_t n, uint64_t m, uint64_t k, uint64_t s,
+                             const uint8_t *records, uint64_t records_len, uint64_t number);
+socwr_name socwr_row_name(uint64_t n, uint64_t m, uint64_t k, uint64_t s,
+                          const uint8_t *records, uint64_t records_len, uint64_t number);
+
+/* The lengths of the cones: zero, nonnegative, then the second-order ones. Answers their count. */
+socwr_answer socwr_cones(uint64_t n, uint64_t m, uint64_t k, uint64_t s,
+                         const uint8_t *records, uint64_t records_len,
+                         uint32_t *lengths, uint64_t lengths_len);
+
+/* Interface and combination. A matrix lies by columns: row r of column c at c * dim + r. */
+
+/* The scale of an operand divided by that of a parameter. */
+socwr_scalar socwr_unit_scale(uint64_t operand, uint64_t parameter, double base);
+
+/* One row of weight 1.0 for each item. Answers the count of items. */
+socwr_answer socwr_selector_new(const uint32_t *from_rows, uint64_t from_rows_len,
+                                const uint32_t *from_elements, uint64_t from_elements_len,
+                                uint32_t *starts, uint64_t starts_len,
+                                uint32_t *rows, uint64_t rows_len,
+                                double *weights, uint64_t weights_len,
+                                uint32_t *elements, uint64_t elements_len);
+
+/* The largest magnitude; what is no number is skipped. */
+socwr_scalar socwr_max_abs(const double *matrix, uint64_t matrix_len);
+
+/* rhs less the matrix times answer, with eps on the diagonal. Answers dim * columns. */
+socwr_answer socwr_residual(uint64_t dim, uint64_t columns,
+                            const uint32_t *rows, uint64_t rows_len,
+                            const uint32_t *cols, uint64_t cols_len,
+                            const double *values, uint64_t values_len,
+                            double eps,
+                            const double *rhs, uint64_t rhs_len,
+                            const double *answer, uint64_t answer_len,
+                            double *out, uint64_t out_len);
+
+/* The entries with row and column exchanged. Answers their count. */
+socwr_answer socwr_transpose(uint64_t dim,
+                             const uint32_t *rows, uint64_t rows_len,
+                             const uint32_t *cols, uint64_t cols_len,
+                             const double *values, uint64_t values_len,
+                             uint32_t *out_rows, uint64_t out_rows_len,
+                             uint32_t *out_cols, uint64_t out_cols_len,
+                             double *out_values, uint64_t out_values_len);
+
+/* The items as columns of a matrix. Answers dim * items. */
+socwr_answer socwr_selector_matrix(uint64_t dim,
+                                   const uint32_t *starts, uint64_t starts_len,
+                                   const uint32_t *rows, uint64_t rows_len,
+                                   const double *weights, uint64_t weights_len,
+                                   double *out, uint64_t out_len);
+
+/* The sensitivities from a given solution; item o, column c at o * columns + c. Answers items * columns. */
+socwr_answer socwr_combine(uint64_t mode, uint64_t dim, uint64_t columns,
+                           const uint32_t *starts, uint64_t starts_len,
+                           const uint32_t *rows, uint64_t rows_len,
+                           const double *weights, uint64_t weights_len,
+                           double sign,
+                           const double *rhs, uint64_t rhs_len,
+                           const double *solution, uint64_t solution_len,
+                           double *out, uint64_t out_len);
+
+#ifdef __cplusplus
+}
+#endif
+
+#endif
