@@ -105,3 +105,20 @@ module _ {cs : List (List Cell)} {ss₀ ss rs₀ rs : List ℕ} {vs₀ vs : List
 
   pub whole-vals : length (joined cs) ≤ length vs₀ → vs ≡ overlay (map cellVal (joined cs)) vs₀
   whole-vals l = ap valsOf (h .columns .cells .is) ∙ vals-sets (joined cs) _ ∙ overlaid (map cellVal (joined cs)) vs₀ (rw length-map l)
+
+-- ---- loops that write cells, or columns in some of their turns
+
+pub cells-all : (f : ℕ → List Cell) {i n : ℕ} {o o′ : CellOut} → i ≡ n → WroteCells (each i f) o o′ → WroteCells (each n f) o o′
+cells-all f e h = rw (← e) h
+
+module _ (f : ℕ → List (List Cell)) {c₀ : ℕ} {ss₀ : List ℕ} {o : CellOut} where
+  pub columns-start : Columns (each 0 f) c₀ ss₀ o ss₀ o
+  unfolding upTo
+  columns-start = no-columns
+
+  pub columns-turn : {c j : ℕ} {ss ss′ : List ℕ} {o′ o″ : CellOut} → Columns (each j f) c₀ ss₀ o ss o′ → c ≡ c₀ + length (each j f) → Columns (f j) c ss o′ ss′ o″
+      → Columns (each (j + 1) f) c₀ ss₀ o ss′ o″
+  columns-turn {j = j} h e k = rw (each-more f j) (columns-then h e k)
+
+  pub columns-end : {i n : ℕ} {ss : List ℕ} {o′ : CellOut} → i ≡ n → Columns (each i f) c₀ ss₀ o ss o′ → Columns (each n f) c₀ ss₀ o ss o′
+  columns-end e h = rw (← e) h

@@ -8,3 +8,5 @@ pub mod Answers
 pub mod Dealing
 pub mod BusColumns
 pub mod Counts
+pub mod Written
+pub mod PartsOfA

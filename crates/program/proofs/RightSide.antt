@@ -93,6 +93,7 @@ module _ (l : SocWrLayout) (bytes : List ℕ) (ready : Ready l bytes) where
       linear-side (netOf l bytes)
       ∙ rw (ones (l .k) (netOf l bytes .piecewise) (add binary64 zero64 (rounded .one)), ← ready .curves-are)
       (eight-blocks (l .k) (l .n) (l .m) zero64 (listed (l .k) (linearCost l bytes)) (listed (l .«cost_columns») (λ c. add binary64 zero64 (rounded .one))))
+
   intercepts : each (l .k) (λ g. each (netOf l bytes .segments g) (λ t. b (netOf l bytes) (Segment g t) ∷ [])) ≡ listed (l .s) (λ r. neg (interceptOf bytes (l .n + l .m + l .k + r)))
   unfolding b segmentRecord
   intercepts =

@@ -8,3 +8,5 @@ pub mod Deal
 pub mod Series
 pub mod Buses
 pub mod Cursors
+pub mod Writers
+pub mod Parts

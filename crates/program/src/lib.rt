@@ -33,8 +33,11 @@ pub enum OhmRow {
     Qt,
 }
 
-pub mod inner;
+mod assembly;
+mod branches;
 mod buses;
+mod generators;
+pub mod inner;
 mod put;
 mod quadratic;
 mod sides;
@@ -103,5 +106,38 @@ pub fn program_p(
         return Written::Refused(Refusal::OutputTooShort(count as u64));
     }
     let written = quadratic::fill_p(starts, rows, values, l, bytes);
+    Written::Count(written as u64)
+}
+
+// A by compressed columns: nvar + 1 starts, and the rows and values of its entries, rows ascending in a column.
+pub fn program_a(
+    n: usize,
+    m: usize,
+    k: usize,
+    s: usize,
+    bytes: &[u8],
+    starts: &mut [u32],
+    rows: &mut [u32],
+    values: &mut [f64],
+) -> Written
+    ensures { λ r. ⌜ ColumnsWritten (checkOf n m k s (now (bytes .entry))) (matrix (networkOf n m k s (now (bytes .entry)))) (now (starts .entry)) (now (rows .entry)) (now (values .entry)) (now (starts .exit)) (now (rows .exit)) (now (values .exit)) r ⌝ }
+{
+    let check = records::check_records(n, m, k, s, bytes);
+    if refusals::is_refused(check) {
+        return refusals::written_if(check, 0);
+    }
+    let l = numbering::inner::layout(n, m, k, s, bytes);
+    let need = numbering::inner::nvar(l) as usize + 1;
+    if starts.len() < need {
+        return Written::Refused(Refusal::OutputTooShort(need as u64));
+    }
+    let count = assembly::count_a(l, bytes);
+    if rows.len() < count {
+        return Written::Refused(Refusal::OutputTooShort(count as u64));
+    }
+    if values.len() < count {
+        return Written::Refused(Refusal::OutputTooShort(count as u64));
+    }
+    let written = assembly::fill_a(starts, rows, values, l, bytes);
     Written::Count(written as u64)
 }

@@ -1,8 +1,11 @@
 // Cells written to the lists of rows and values; where a list has no room, that list stays.
 use lists::inner::store_f64;
 use lists::inner::store_u32;
+ghost use mathlib.Core.Path.{_≡_};
 ghost use Prim.Native.Nat.{_+_, _≤_, _<_, _^_};
-ghost use Rattle.lists.specs.UpTo.{when};
+ghost use lib.Ieee.{ne};
+ghost use Rattle.lists.specs.UpTo.{when, bit};
+ghost use Rattle.rows.specs.Rows.{zero64};
 ghost use Rattle.lists.specs.Compressed.{cellOut, WroteCells};
 ghost use Rattle.matrix.specs.Columns.{oneCell, nonzeroCell};
 
@@ -35,4 +38,15 @@ pub fn put_nonzero(rows: &mut [u32], vals: &mut [f64], at: usize, r: u32, v: f64
     ensures { λ x. ⌜ x ≤ at + 1 ⌝ }
 {
     put_if(rows, vals, at, v != 0.0, r, v)
+}
+
+// 1 if the value is put, else 0.
+pub fn bit_nonzero(v: f64) -> usize
+    ensures { λ r. ⌜ r ≡ bit (ne v zero64) ⌝ }
+    ensures { λ r. ⌜ r ≤ 1 ⌝ }
+{
+    if v != 0.0 {
+        return 1;
+    }
+    0
 }

@@ -1,4 +1,5 @@
 // P by compressed columns.
+use crate::put::bit_nonzero;
 use crate::put::put_nonzero;
 use lists::inner::store_u32;
 use numbering::SocWrLayout;
@@ -13,19 +14,6 @@ ghost use Rattle.program.specs.Ready.{Ready, netOf};
 ghost use Rattle.program.specs.Filled.{Filled};
 ghost use Rattle.program.specs.Columns.{Columns, Whole};
 ghost use Rattle.program.specs.Quadratic.{quadCells, quadCount};
-ghost use lib.Ieee.{ne};
-ghost use Rattle.lists.specs.UpTo.{bit};
-ghost use Rattle.rows.specs.Rows.{zero64};
-
-fn bit_nonzero(v: f64) -> usize
-    ensures { λ r. ⌜ r ≡ bit (ne v zero64) ⌝ }
-    ensures { λ r. ⌜ r ≤ 1 ⌝ }
-{
-    if v != 0.0 {
-        return 1;
-    }
-    0
-}
 
 // How many entries P has.
 pub fn count_p(l: SocWrLayout, bytes: &[u8]) -> usize
@@ -43,7 +31,13 @@ pub fn count_p(l: SocWrLayout, bytes: &[u8]) -> usize
 }
 
 // The pg columns: twice the quadratic cost on the diagonal.
-fn put_quads(starts: &mut [u32], rows: &mut [u32], vals: &mut [f64], l: SocWrLayout, bytes: &[u8]) -> usize
+fn put_quads(
+    starts: &mut [u32],
+    rows: &mut [u32],
+    vals: &mut [f64],
+    l: SocWrLayout,
+    bytes: &[u8],
+) -> usize
     requires { ⌜ Ready l (now bytes) ⌝ }
     ensures { λ x. ⌜ Columns (listed (l .k) (quadCells l (now (bytes .entry)))) 0 (now (starts .entry)) (cellOut (now (rows .entry)) (now (vals .entry)) 0) (now (starts .exit)) (cellOut (now (rows .exit)) (now (vals .exit)) x) ⌝ }
     ensures { λ x. ⌜ x ≤ l .k ⌝ }
@@ -73,7 +67,13 @@ fn put_empty(starts: &mut [u32], c: usize, count: usize, at: u32)
 }
 
 // All of P.
-pub fn fill_p(starts: &mut [u32], rows: &mut [u32], vals: &mut [f64], l: SocWrLayout, bytes: &[u8]) -> usize
+pub fn fill_p(
+    starts: &mut [u32],
+    rows: &mut [u32],
+    vals: &mut [f64],
+    l: SocWrLayout,
+    bytes: &[u8],
+) -> usize
     requires { ⌜ Ready l (now bytes) ⌝ }
     ensures { λ x. ⌜ Whole (quadraticMatrix (netOf l (now (bytes .entry)))) (now (starts .entry)) (now (rows .entry)) (now (vals .entry)) (now (starts .exit)) (now (rows .exit)) (now (vals .exit)) x ⌝ }
 {

@@ -78,10 +78,7 @@ fn angle_rhs(l: SocWrLayout, bytes: &[u8], block: usize, e: usize) -> f64
     requires { ⌜ e < l .m ⌝ }
     ensures { λ r. ⌜ r ≡ sideAt l (now (bytes .entry)) block e ⌝ }
 {
-    active(
-        crate::inner::conic_angle_bound_active(bytes, l.n + e),
-        0.0,
-    )
+    active(crate::inner::conic_angle_bound_active(bytes, l.n + e), 0.0)
 }
 
 fn fill_buses(out: &mut [f64], at: usize, l: SocWrLayout, bytes: &[u8], block: usize)

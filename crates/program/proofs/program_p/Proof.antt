@@ -17,14 +17,14 @@ returns : tie.Need-returns
 returns c = columns-refused (c .before .before .before .check-records .ensures) (sym (c .before .before .is-refused .ensures) ∙ c .before .if1 .taken) (c .written-if .ensures)
 
 layout-requires : tie.Need-layout-requires
-layout-requires c κs = 
+layout-requires c κs =
     let a = c .before .before .before .before .before .before .before .args in
     let b = now (a .bytes) in
     let o : checkOf (a .n) (a .m) (a .k) (a .s) b ≡ Accepted = sym (c .before .before .check-records .ensures) ∙ passed _ (sym (c .before .is-refused .ensures) ∙ c .if1 .left) in
     accepted (a .n) (a .m) (a .k) (a .s) b o
 
 nvar-requires : tie.Need-nvar-requires
-nvar-requires c κs = 
+nvar-requires c κs =
     let a = c .before .before .before .before .before .before .before .before .args in
     let b = now (a .bytes) in
     let o : checkOf (a .n) (a .m) (a .k) (a .s) b ≡ Accepted = sym (c .before .before .before .check-records .ensures) ∙ passed _ (sym (c .before .before .is-refused .ensures) ∙ c .before .if1 .left) in
@@ -32,7 +32,7 @@ nvar-requires c κs =
     r .range
 
 returns-2 : tie.Need-returns-2
-returns-2 c = 
+returns-2 c =
     let a = c .before .before .before .before .before .before .before .before .before .before .args in
     let b = now (a .bytes) in
     let o : checkOf (a .n) (a .m) (a .k) (a .s) b ≡ Accepted = sym (c .before .before .before .before .before .check-records .ensures) ∙ passed _ (sym (c .before .before .before .before .is-refused .ensures) ∙ c .before .before .before .if1 .left) in
@@ -42,7 +42,7 @@ returns-2 c =
     columns-of quadraticMatrix e (short-starts o (omega (arith, hs, c .before .nvar .ensures)) (c .if2 .taken))
 
 count-p-requires : tie.Need-count-p-requires
-count-p-requires c κs = 
+count-p-requires c κs =
     let a = c .before .before .before .before .before .before .before .before .before .before .args in
     let b = now (a .bytes) in
     let o : checkOf (a .n) (a .m) (a .k) (a .s) b ≡ Accepted = sym (c .before .before .before .before .before .check-records .ensures) ∙ passed _ (sym (c .before .before .before .before .is-refused .ensures) ∙ c .before .before .before .if1 .left) in
@@ -50,7 +50,7 @@ count-p-requires c κs =
     r
 
 returns-3 : tie.Need-returns-3
-returns-3 c = 
+returns-3 c =
     let a = c .before .before .before .before .before .before .before .before .before .before .before .before .args in
     let b = now (a .bytes) in
     let o : checkOf (a .n) (a .m) (a .k) (a .s) b ≡ Accepted = sym (c .before .before .before .before .before .before .before .check-records .ensures) ∙ passed _ (sym (c .before .before .before .before .before .before .is-refused .ensures) ∙ c .before .before .before .before .before .if1 .left) in
@@ -61,7 +61,7 @@ returns-3 c =
     columns-of quadraticMatrix e (short-rows o (omega (arith, hs, c .before .before .before .nvar .ensures, c .before .before .if2 .left)) (c .before .count-p .ensures ∙ sym hc) (c .if3 .taken))
 
 returns-4 : tie.Need-returns-4
-returns-4 c = 
+returns-4 c =
     let a = c .before .before .before .before .before .before .before .before .before .before .before .before .before .args in
     let b = now (a .bytes) in
     let o : checkOf (a .n) (a .m) (a .k) (a .s) b ≡ Accepted = sym (c .before .before .before .before .before .before .before .before .check-records .ensures) ∙ passed _ (sym (c .before .before .before .before .before .before .before .is-refused .ensures) ∙ c .before .before .before .before .before .before .if1 .left) in
@@ -72,7 +72,7 @@ returns-4 c =
     columns-of quadraticMatrix e (short-vals o (omega (arith, hs, c .before .before .before .before .nvar .ensures, c .before .before .before .if2 .left)) (c .before .before .count-p .ensures ∙ sym hc) (c .before .if3 .left) (c .if4 .taken))
 
 fill-p-requires : tie.Need-fill-p-requires
-fill-p-requires c κs = 
+fill-p-requires c κs =
     let a = c .before .before .before .before .before .before .before .before .before .before .before .before .before .before .before .before .args in
     let b = now (a .bytes) in
     let o : checkOf (a .n) (a .m) (a .k) (a .s) b ≡ Accepted = sym (c .before .before .before .before .before .before .before .before .before .before .before .check-records .ensures) ∙ passed _ (sym (c .before .before .before .before .before .before .before .before .before .before .is-refused .ensures) ∙ c .before .before .before .before .before .before .before .before .before .if1 .left) in
@@ -80,7 +80,7 @@ fill-p-requires c κs =
     r
 
 returns-5 : tie.Need-returns-5
-returns-5 c = 
+returns-5 c =
     let a = c .before .before .before .before .before .before .before .before .before .before .before .before .before .before .before .before .before .before .before .before .before .before .before .args in
     let b = now (a .bytes) in
     let o : checkOf (a .n) (a .m) (a .k) (a .s) b ≡ Accepted = sym (c .before .before .before .before .before .before .before .before .before .before .before .before .before .before .before .before .before .before .check-records .ensures) ∙ passed _ (sym (c .before .before .before .before .before .before .before .before .before .before .before .before .before .before .before .before .before .is-refused .ensures) ∙ c .before .before .before .before .before .before .before .before .before .before .before .before .before .before .before .before .if1 .left) in

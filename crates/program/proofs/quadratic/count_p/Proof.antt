@@ -24,11 +24,14 @@ loop-holds c = (omega arith, refl, omega arith, refl)
 
 loop-again : tie.Need-loop-again Inv-loop μ-loop
 unfolding quadCount
-loop-again c = 
+loop-again c =
     let a = c .before .before .before .before .before .before .args in
-    let e : c .bit-nonzero .result ≡ bit (ne (quadValue (a .l) (now (a .bytes)) (c .before .before .before .before .loop .g)) zero64) = c .bit-nonzero .ensures .0 ∙ cc in
-    (omega arith, c .before .before .before .before .loop .inv .1, omega arith,
-    omega (arith, c .before .before .before .before .loop .inv .3, sum-next (c .before .before .before .before .loop .g) (λ g. bit (ne (quadValue (a .l) (now (a .bytes)) g) zero64))))
+    let e : c .bit-nonzero .result ≡ bit (ne (quadValue (a .l) (now (a .bytes)) (c .before .before .before .before .loop .g)) zero64) = c .bit-nonzero .ensures .0 ∙ cc in (
+      omega arith,
+      c .before .before .before .before .loop .inv .1,
+      omega arith,
+      omega (arith, c .before .before .before .before .loop .inv .3, sum-next (c .before .before .before .before .loop .g) (λ g. bit (ne (quadValue (a .l) (now (a .bytes)) g) zero64))),
+    )
 
 returns : tie.Need-returns Inv-loop μ-loop
 returns c = let e : c .before .loop .g ≡ c .before .before .before .args .l .k = omega arith in c .before .loop .inv .3 ∙ ap (quadCount (c .before .before .before .args .l) (now (c .before .before .before .args .bytes))) e

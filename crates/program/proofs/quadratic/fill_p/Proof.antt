@@ -10,7 +10,7 @@ use Rattle.program.proofs.quadratic.fill_p.Statement.{statement}
 use Rattle.program.proofs.quadratic.fill_p.Tie as tie
 
 returns : tie.Need-returns
-returns c = 
+returns c =
     let a = c .before .before .before .before .before .before .before .before .before .before .before .before .before .before .before .before .before .before .before .before .before .before .before .before .before .args in
     let r = c .before .before .before .before .before .before .before .before .before .before .before .before .before .before .before .before .before .before .before .before .before .before .before .before .before .pre in
     record { columns = rw (quad-parts (a .l) (now (a .bytes)) r) (columns-then (rw (c .before .before .before .before .before .before .before .before .before .before .before .before .before .before .before .before .store-u32 .ensures) at (c .before .before .before .before .before .before .before .before .before .before .put-quads .ensures .0)) (omega (arith, listed-length (quadCells (a .l) (now (a .bytes))) (a .l .k))) (empty-columns _ (c .before .before .put-empty .ensures))) }

@@ -26,7 +26,7 @@ loop-holds c = (omega arith, refl, omega arith, columns-none _)
 
 loop-again : tie.Need-loop-again Inv-loop μ-loop
 unfolding quadCells
-loop-again c = 
+loop-again c =
     let a = c .before .before .before .before .before .before .before .before .before .before .before .before .before .before .before .before .before .before .before .args in
     let e : mul binary64 (rounded .two) (c .before .before .before .before .before .before .before .before .before .before .before .cq .result) ≡ quadValue (a .l) (now (a .bytes)) (c .before .before .before .before .before .before .before .before .before .before .before .before .before .before .loop .g) = ap (mul binary64 (rounded .two)) (c .before .before .before .before .before .before .before .before .before .before .before .cq .ensures) in
     (omega arith, c .before .before .before .before .before .before .before .before .before .before .before .before .before .before .loop .inv .1, omega arith, columns-more _ (c .before .before .before .before .before .before .before .before .before .before .before .before .before .before .loop .inv .3) (rw e at (c .before .before .before .before .before .before .before .before .put-nonzero .ensures .0)) (c .before .before .store-u32 .ensures) (omega arith))

@@ -25,7 +25,7 @@ fill-gens-requires-4 c κs = (c .before .before .before .before .before .before 
 
 returns : tie.Need-returns
 unfolding generatorSides
-returns c = 
+returns c =
     let a = c .before .before .before .before .before .before .before .before .before .before .before .before .before .before .before .before .before .before .before .before .before .args in
     let f = sideAt (a .l) (now (a .bytes)) in
     let k = a .l .k in

@@ -18,7 +18,7 @@ fill-buses-requires-2 c κs = (c .before .before .before .before .before .before
 
 returns : tie.Need-returns
 unfolding equalitySides
-returns c = 
+returns c =
     let a = c .before .before .before .before .before .before .before .before .before .before .before .before .before .before .before .before .args in
     let f = sideAt (a .l) (now (a .bytes)) in
     filled-then

@@ -32,7 +32,7 @@ fill-ratings-requires c κs = (c .before .before .before .before .before .before
 
 returns : tie.Need-returns
 unfolding otherSides
-returns c = 
+returns c =
     let a = c .before .before .before .before .before .before .before .before .before .before .before .before .before .before .before .before .before .before .before .before .before .before .before .before .before .before .before .before .args in
     let f = sideAt (a .l) (now (a .bytes)) in
     let x = listed (a .l .m) (f 12) in

@@ -26,20 +26,23 @@ loop-holds c = (omega arith, refl, filled-nothing (ratingsAt (c .before .before 
 
 put-rating-requires : tie.Need-put-rating-requires Inv-loop μ-loop
 unfolding ratingsAt
-put-rating-requires c κs = 
+put-rating-requires c κs =
     let a = c .before .before .before .before .before .before .before .before .args in
     let h : when (c .before .before .thermal-limit-active .result) (ratingSides (c .before .rate-a .result)) ≡ ratingsAt (a .l) (now (a .bytes)) (c .before .before .before .before .before .loop .e) = cc in
     omega (arith, ap length h, kept-length (c .before .before .before .before .before .loop .inv .2), ratings-room (a .l) (now (a .bytes)) (c .before .before .before .before .before .before .before .before .pre .0) (c .before .before .before .before .before .loop .e) (omega arith))
 
 loop-again : tie.Need-loop-again Inv-loop μ-loop
 unfolding ratingsAt
-loop-again c = 
+loop-again c =
     let a = c .before .before .before .before .before .before .before .before .before .before .before .args in
     let f = ratingsAt (a .l) (now (a .bytes)) in
     let h : when (c .before .before .before .before .before .thermal-limit-active .result) (ratingSides (c .before .before .before .before .rate-a .result)) ≡ f (c .before .before .before .before .before .before .before .before .loop .e) = cc in
-    let w : Filled (f (c .before .before .before .before .before .before .before .before .loop .e)) _ _ _ = rw h at (c .before .before .put-rating .ensures .0) in
-    (omega arith, c .before .before .before .before .before .before .before .before .loop .inv .1, filled-turn f (c .before .before .before .before .before .before .before .before .loop .inv .2) (c .before .before .before .before .before .before .before .before .loop .inv .3) w,
-    c .before .before .put-rating .ensures .1 ∙ omega (arith, ap length h, c .before .before .before .before .before .before .before .before .loop .inv .3, ap length (each-more f (c .before .before .before .before .before .before .before .before .loop .e)), length-append (each (c .before .before .before .before .before .before .before .before .loop .e) f) (f (c .before .before .before .before .before .before .before .before .loop .e))))
+    let w : Filled (f (c .before .before .before .before .before .before .before .before .loop .e)) _ _ _ = rw h at (c .before .before .put-rating .ensures .0) in (
+      omega arith,
+      c .before .before .before .before .before .before .before .before .loop .inv .1,
+      filled-turn f (c .before .before .before .before .before .before .before .before .loop .inv .2) (c .before .before .before .before .before .before .before .before .loop .inv .3) w,
+      c .before .before .put-rating .ensures .1 ∙ omega (arith, ap length h, c .before .before .before .before .before .before .before .before .loop .inv .3, ap length (each-more f (c .before .before .before .before .before .before .before .before .loop .e)), length-append (each (c .before .before .before .before .before .before .before .before .loop .e) f) (f (c .before .before .before .before .before .before .before .before .loop .e))),
+    )
 
 same-length : tie.Need-same-length Inv-loop μ-loop
 same-length c = kept-length (c .before .loop .inv .2)

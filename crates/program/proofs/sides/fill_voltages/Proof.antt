@@ -16,7 +16,7 @@ fill-buses-requires-2 c κs = (c .before .before .before .before .before .before
 
 returns : tie.Need-returns
 unfolding voltageSides
-returns c = 
+returns c =
     let a = c .before .before .before .before .before .before .before .before .before .before .before .args in
     filled-then (c .before .before .before .before .before .before .fill-buses .ensures) (omega (arith, listed-length (sideAt (a .l) (now (a .bytes)) 6) (a .l .n))) (c .before .before .fill-buses2 .ensures)
 

@@ -25,7 +25,7 @@ slice-write-out-6 c = simp length-set (omega arith)
 
 returns : tie.Need-returns
 unfolding ratingSides
-returns c = 
+returns c =
     let a = c .args .at in
     let e1 : a + 1 ≡ suc a = omega arith in
     let e2 : a + 2 ≡ suc (suc a) = omega arith in

@@ -1,7 +1,7 @@
--- `program::quadratic::bit_nonzero` meets its contract. Assumes nothing.
+-- `program::put::bit_nonzero` meets its contract. Assumes nothing.
 use native.Mathlib.Omega.{arith}
-use Rattle.program.proofs.quadratic.bit_nonzero.Statement.{statement}
-use Rattle.program.proofs.quadratic.bit_nonzero.Tie as tie
+use Rattle.program.proofs.put.bit_nonzero.Statement.{statement}
+use Rattle.program.proofs.put.bit_nonzero.Tie as tie
 
 returns : tie.Need-returns
 returns c = (rw (c .if1 .taken), omega arith)
