@@ -4,7 +4,7 @@ use Rattle.kernel.proofs.kkt_matrix.socwr_kkt_entries.Statement.{statem
 use Rattle.kernel.proofs.kkt_matrix.socwr_kkt_entries.Tie as tie
 
 returns : tie.Need-returns
-returns c = 
+returns c =
     let a = c .before .before .before .before .before .before .before .kkt-entries .ensures in
     (rw (a .answer) at (c .written-answer .ensures), (a .rows, (a .cols, a .vals)))
 
