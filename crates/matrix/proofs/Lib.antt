@@ -2,3 +2,5 @@ pub mod EveryPoint
 pub mod Shaped
 pub mod Cuts
 pub mod Same
+pub mod Rises
+pub mod OneMatrix

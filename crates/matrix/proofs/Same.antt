@@ -235,7 +235,7 @@ unfolding select
 select-when c true xs = refl
 select-when c false xs = refl
 
-select-every : {A : Type 0} (c : ℕ) (G : AcNetwork A) (f : RowName → List Entry) → select c (everyRow G f) ≡ everyRow G (λ x. select c (f x))
+pub select-every : {A : Type 0} (c : ℕ) (G : AcNetwork A) (f : RowName → List Entry) → select c (everyRow G f) ≡ everyRow G (λ x. select c (f x))
 select-every c G f = simp (select-append, select-each, select-when)
 
 module _ (G : AcNetwork Float) (s : Sound G) (bus-below : (g : ℕ) → g < G .k → G .genBus g < G .n) where

@@ -1,4 +1,4 @@
--- A by columns, as code can write it: the cells of each column by ascending row. `Law.byColumns` says that it is A by rows.
+-- A by columns, as code can write it: the cells of each column by ascending row. `Same.matrix-columns` says that it is A by columns.
 use Prim.Native.Nat.{ℕ, _+_}
 use mathlib.Core.List.{List, [], _∷_, _++_}
 use lib.Dec.{eqb}
