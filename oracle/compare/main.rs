@@ -1,12 +1,17 @@
 //! Compares the C entries of the static library with the oracle, bit for bit.
 //! With `--keep FILE` it writes a sample of the oracle's answers instead.
 //! A part of the entries is compared where it is listed in oracle/parts.
-#![cfg_attr(not(part = "combination"), allow(dead_code, unused_mut))]
+#![cfg_attr(
+    not(all(part = "combination", part = "program", part = "kkt", part = "columns")),
+    allow(dead_code, unused_mut)
+)]
 
 #[cfg(part = "combination")]
 mod combination;
 mod keep;
+mod left;
 mod lent;
+mod on_network;
 mod outcome;
 mod random;
 mod records;
