@@ -202,6 +202,19 @@ socwr_answer socwr_combine(uint64_t mode, uint64_t dim, uint64_t columns,
                            const double *solution, uint64_t solution_len,
                            double *out, uint64_t out_len);
 
+/* KKT entries. x has nvar elements, z ncon. The matrix has nvar + ncon rows and columns;
+   row r of the program is row nvar + r of it. */
+
+/* The entries of the KKT matrix at x and z: row, column and value of each. Answers their count, which is at most
+   10 n + 17 k + 82 m + 5 s + 26 t. */
+socwr_answer socwr_kkt_entries(uint64_t n, uint64_t m, uint64_t k, uint64_t s,
+                               const uint8_t *records, uint64_t records_len,
+                               const double *x, uint64_t x_len,
+                               const double *z, uint64_t z_len,
+                               uint32_t *rows, uint64_t rows_len,
+                               uint32_t *cols, uint64_t cols_len,
+                               double *values, uint64_t values_len);
+
 #ifdef __cplusplus
 }
 #endif

@@ -136,3 +136,15 @@ pub fn combine(
 ) -> Answer {
     lent!(socwr_combine(mode, dim, columns ; starts, rows, weights ; sign ; rhs, solution ; out))
 }
+
+/// Calls an entry on a network that takes slices: those to read, then numbers, then those to write.
+macro_rules! lent_on {
+    ($f:ident ( $net:expr ; $($read:ident),* ; $($plain:expr),* ; $($write:ident),* )) => {
+        on!($f, $net $(, $read.as_ptr(), $read.len() as u64)* $(, $plain)* $(, $write.as_mut_ptr(), $write.len() as u64)*)
+    };
+}
+
+#[inline]
+pub fn kkt_entries(net: Net, x: &[f64], z: &[f64], rows: &mut [u32], cols: &mut [u32], values: &mut [f64]) -> Answer {
+    lent_on!(socwr_kkt_entries(net ; x, z ; ; rows, cols, values))
+}
