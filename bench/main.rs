@@ -1,6 +1,8 @@
 //! Times of the entries beside the Rust's, in one run: medians of rounds that take turns.
 
 mod clock;
+#[cfg(part = "columns")]
+mod columns;
 #[cfg(part = "combination")]
 mod combination;
 #[allow(dead_code)]
@@ -30,4 +32,6 @@ fn main() {
     combination::print();
     #[cfg(part = "kkt")]
     kkt::print();
+    #[cfg(part = "columns")]
+    columns::print();
 }

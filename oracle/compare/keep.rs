@@ -1,5 +1,7 @@
 //! A sample of the oracle's answers, in the format of docs/VECTORS.md.
 
+#[cfg(part = "columns")]
+use crate::columns;
 #[cfg(part = "combination")]
 use crate::combination;
 #[cfg(part = "kkt")]
@@ -41,6 +43,8 @@ pub fn write(path: &str) {
     counts.add(combination::keep(&mut words));
     #[cfg(part = "kkt")]
     counts.add(kkt::keep(&mut words));
+    #[cfg(part = "columns")]
+    counts.add(columns::keep(&mut words));
     words.word(0);
     std::fs::write(path, &words.0).expect("the file can be written");
     println!("{path}: {} cases, {} answers, {} bytes", counts.cases, counts.answers, words.0.len());

@@ -6,9 +6,13 @@
     allow(dead_code, unused_mut)
 )]
 
+mod codes;
+#[cfg(part = "columns")]
+mod columns;
 #[cfg(part = "combination")]
 mod combination;
 mod full;
+mod items;
 mod keep;
 #[cfg(part = "kkt")]
 mod kkt;
@@ -32,6 +36,8 @@ fn parts() -> Vec<Part> {
     all.extend(combination::PARTS);
     #[cfg(part = "kkt")]
     all.push(kkt::compare);
+    #[cfg(part = "columns")]
+    all.push(columns::compare);
     all
 }
 

@@ -47,7 +47,7 @@ fn lent(kind: Kind, need: usize, random: &mut Random) -> [usize; 3] {
     all
 }
 
-/// One case of the kind, if it is small enough.
+/// One case of the kind; whether it is kept.
 fn one(words: &mut Words, kind: Kind, random: &mut Random) -> bool {
     let case = case(kind, random);
     let found = entries(&case);
@@ -57,7 +57,7 @@ fn one(words: &mut Words, kind: Kind, random: &mut Random) -> bool {
     let left = left([lent[0], lent[1], 0, lent[2]], lists);
     let Solved { network, x, z } = case;
     let call = Call { entry: ENTRY, network, numbers: [0; 2], float: 0.0, x, z };
-    let small = need <= if kind == Kind::Short { SHORT } else { MOST };
+    let small = if kind == Kind::Short { (1..=SHORT).contains(&need) } else { need <= MOST };
     let kept = small && fits(&call, &left);
     if kept {
         put(words, &call, &left);
