@@ -1,8 +1,10 @@
 //! The KKT entries beside `ConicKkt::new`, on networks of several sizes.
 
-use crate::clock::{head, line, shown};
+use crate::clock::{head, line, one, shown};
 use crate::grid::{Grid, BUSES};
 use std::hint::black_box;
+use tellegen::formulation::SocWr;
+use tellegen::problem::build_conic_opf;
 use tellegen::sens::{ConicKkt, Differentiable};
 
 /// The time of a call into slices of this length.
@@ -21,7 +23,10 @@ fn one_size(buses: u32) -> [f64; 2] {
     let t = socwr::layout_new(grid.net()).t;
     let bound = 10 * c.n + 17 * c.k + 82 * c.m + 5 * c.s + 26 * t;
     head(&format!("{}, {need} entries", grid.title()));
-    [entries(&grid, "into demand 3's bound", bound as usize), entries(&grid, "into exactly enough", need)]
+    let times = [entries(&grid, "into demand 3's bound", bound as usize), entries(&grid, "into exactly enough", need)];
+    let program = one(|| build_conic_opf(&SocWr::new(), black_box(&grid.rust)).b.len());
+    println!("  {:<58}{:>12}", "of the Rust's, the program that it takes A from", shown(program));
+    times
 }
 
 pub fn print() {
