@@ -43,6 +43,12 @@ typedef struct socwr_name {
     uint64_t number, value, block, index, place;
 } socwr_name;
 
+/* sign is +1.0 or -1.0, 0.0 on a refusal. */
+typedef struct socwr_selector {
+    uint64_t number, value;
+    double sign;
+} socwr_selector;
+
 /* The blocks of columns. */
 enum {
     SOCWR_COLUMN_PG,
@@ -117,6 +123,8 @@ enum {
 };
 
 enum { SOCWR_FORWARD, SOCWR_ADJOINT, SOCWR_AUTO };
+
+enum { SOCWR_AXIS_BUS, SOCWR_AXIS_BRANCH, SOCWR_AXIS_GENERATOR, SOCWR_AXIS_CONSTRAINT };
 
 /* Records and numbering. n, m, k, s count the buses, branches, generators and segments in records. */
 
@@ -201,6 +209,46 @@ socwr_answer socwr_combine(uint64_t mode, uint64_t dim, uint64_t columns,
                            const double *rhs, uint64_t rhs_len,
                            const double *solution, uint64_t solution_len,
                            double *out, uint64_t out_len);
+
+/* KKT entries, columns and selectors. x has nvar elements, z ncon. The matrix has nvar + ncon rows and columns;
+   row r of the program is row nvar + r of it. */
+
+/* The entries of the KKT matrix at x and z: row, column and value of each. Answers their count, which is at most
+   10 n + 17 k + 82 m + 5 s + 26 t. */
+socwr_answer socwr_kkt_entries(uint64_t n, uint64_t m, uint64_t k, uint64_t s,
+                               const uint8_t *records, uint64_t records_len,
+                               const double *x, uint64_t x_len,
+                               const double *z, uint64_t z_len,
+                               uint32_t *rows, uint64_t rows_len,
+                               uint32_t *cols, uint64_t cols_len,
+                               double *values, uint64_t values_len);
+
+/* How many elements a parameter, and an operand, ranges over. */
+socwr_answer socwr_parameter_len(uint64_t n, uint64_t m, uint64_t k, uint64_t s,
+                                 const uint8_t *records, uint64_t records_len, uint64_t parameter);
+socwr_answer socwr_operand_len(uint64_t n, uint64_t m, uint64_t k, uint64_t s,
+                               const uint8_t *records, uint64_t records_len, uint64_t operand);
+
+/* One column of the parameter's Jacobian at x and z: that of the element index. Answers nvar + ncon. */
+socwr_answer socwr_parameter_jacobian(uint64_t n, uint64_t m, uint64_t k, uint64_t s,
+                                      const uint8_t *records, uint64_t records_len,
+                                      const double *x, uint64_t x_len,
+                                      const double *z, uint64_t z_len,
+                                      uint64_t parameter, uint64_t index,
+                                      double *column, uint64_t column_len);
+
+/* The rows of a solution that an operand reads, one of weight 1.0 for each item, and the sign that it is reported
+   with. starts has one element more than there are items. Answers the count of items. */
+socwr_selector socwr_operand_selector(uint64_t n, uint64_t m, uint64_t k, uint64_t s,
+                                      const uint8_t *records, uint64_t records_len, uint64_t operand,
+                                      uint32_t *starts, uint64_t starts_len,
+                                      uint32_t *rows, uint64_t rows_len,
+                                      double *weights, uint64_t weights_len,
+                                      uint32_t *elements, uint64_t elements_len);
+
+/* The id of an element; on the constraint axis the index itself, every index. */
+socwr_answer socwr_element_id(uint64_t n, uint64_t m, uint64_t k, uint64_t s,
+                              const uint8_t *records, uint64_t records_len, uint64_t axis, uint64_t index);
 
 #ifdef __cplusplus
 }

@@ -6,9 +6,16 @@
     allow(dead_code, unused_mut)
 )]
 
+mod codes;
+#[cfg(part = "columns")]
+mod columns;
 #[cfg(part = "combination")]
 mod combination;
+mod full;
+mod items;
 mod keep;
+#[cfg(part = "kkt")]
+mod kkt;
 mod left;
 mod lent;
 mod on_network;
@@ -16,7 +23,9 @@ mod outcome;
 mod random;
 mod records;
 mod report;
+mod solved;
 mod sums;
+mod system;
 
 /// Prints the lines of some subjects; whether nothing differs.
 type Part = fn() -> bool;
@@ -25,6 +34,10 @@ fn parts() -> Vec<Part> {
     let mut all: Vec<Part> = vec![sums::compare, records::compare];
     #[cfg(part = "combination")]
     all.extend(combination::PARTS);
+    #[cfg(part = "kkt")]
+    all.push(kkt::compare);
+    #[cfg(part = "columns")]
+    all.push(columns::compare);
     all
 }
 

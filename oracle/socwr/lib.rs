@@ -3,7 +3,7 @@
 mod declared;
 
 use declared::*;
-pub use declared::{Answer, Name, Scalar, Sizes};
+pub use declared::{Answer, Name, Scalar, Selector, Sizes};
 use plain::Counts;
 
 /// A network as it is handed over.
@@ -135,4 +135,48 @@ pub fn combine(
     out: &mut [f64],
 ) -> Answer {
     lent!(socwr_combine(mode, dim, columns ; starts, rows, weights ; sign ; rhs, solution ; out))
+}
+
+/// Calls an entry on a network that takes slices: those to read, then numbers, then those to write.
+macro_rules! lent_on {
+    ($f:ident ( $net:expr ; $($read:ident),* ; $($plain:expr),* ; $($write:ident),* )) => {
+        on!($f, $net $(, $read.as_ptr(), $read.len() as u64)* $(, $plain)* $(, $write.as_mut_ptr(), $write.len() as u64)*)
+    };
+}
+
+#[inline]
+pub fn kkt_entries(net: Net, x: &[f64], z: &[f64], rows: &mut [u32], cols: &mut [u32], values: &mut [f64]) -> Answer {
+    lent_on!(socwr_kkt_entries(net ; x, z ; ; rows, cols, values))
+}
+
+#[inline]
+pub fn parameter_len(net: Net, parameter: u64) -> Answer {
+    on!(socwr_parameter_len, net, parameter)
+}
+
+#[inline]
+pub fn operand_len(net: Net, operand: u64) -> Answer {
+    on!(socwr_operand_len, net, operand)
+}
+
+#[inline]
+pub fn parameter_jacobian(net: Net, x: &[f64], z: &[f64], parameter: u64, index: u64, column: &mut [f64]) -> Answer {
+    lent_on!(socwr_parameter_jacobian(net ; x, z ; parameter, index ; column))
+}
+
+#[inline]
+pub fn operand_selector(
+    net: Net,
+    operand: u64,
+    starts: &mut [u32],
+    rows: &mut [u32],
+    weights: &mut [f64],
+    elements: &mut [u32],
+) -> Selector {
+    lent_on!(socwr_operand_selector(net ; ; operand ; starts, rows, weights, elements))
+}
+
+#[inline]
+pub fn element_id(net: Net, axis: u64, index: u64) -> Answer {
+    on!(socwr_element_id, net, axis, index)
 }
