@@ -6,6 +6,8 @@ mod combination;
 #[allow(dead_code)]
 #[path = "../oracle/compare/records/network.rs"]
 mod network;
+#[cfg(part = "program")]
+mod program;
 #[allow(dead_code)]
 #[path = "../oracle/compare/random.rs"]
 mod random;
@@ -18,4 +20,6 @@ fn main() {
     records::print();
     #[cfg(part = "combination")]
     combination::print();
+    #[cfg(part = "program")]
+    program::print();
 }

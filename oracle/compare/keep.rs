@@ -2,6 +2,8 @@
 
 #[cfg(part = "combination")]
 use crate::combination;
+#[cfg(part = "program")]
+use crate::program;
 use crate::records;
 
 /// Words of 64 bits, little-endian.
@@ -37,6 +39,8 @@ pub fn write(path: &str) {
     let mut counts = records::keep(&mut words);
     #[cfg(part = "combination")]
     counts.add(combination::keep(&mut words));
+    #[cfg(part = "program")]
+    counts.add(program::keep(&mut words));
     words.word(0);
     std::fs::write(path, &words.0).expect("the file can be written");
     println!("{path}: {} cases, {} answers, {} bytes", counts.cases, counts.answers, words.0.len());

@@ -13,6 +13,8 @@ mod left;
 mod lent;
 mod on_network;
 mod outcome;
+#[cfg(part = "program")]
+mod program;
 mod random;
 mod records;
 mod report;
@@ -25,6 +27,8 @@ fn parts() -> Vec<Part> {
     let mut all: Vec<Part> = vec![sums::compare, records::compare];
     #[cfg(part = "combination")]
     all.extend(combination::PARTS);
+    #[cfg(part = "program")]
+    all.push(program::compare);
     all
 }
 
