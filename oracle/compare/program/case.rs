@@ -36,21 +36,22 @@ impl<'a> Case<'a> {
     }
 
     /// Holds an entry that writes lists, on several lengths; `usual` are lent where `want` is a refusal.
+    /// `call` also says whether all else that it lends is unchanged.
     pub fn hold_lists(
         &self,
         subject: &mut Subject,
         random: &mut Random,
         want: Result<Lists, Refused>,
         usual: &[usize],
-        call: impl Fn(&mut Outputs) -> Answer,
+        call: impl Fn(&mut Outputs) -> (Answer, bool),
     ) {
         let needs = want.as_ref().map_or(usual.to_vec(), Lists::needs);
         for lent in lengths(&needs, random) {
             let fits = want.clone().and_then(|lists| lists.fit(&lent));
             let expected = answer(fits.as_ref().map(|lists| lists.floats.len() as u64).map_err(|&r| r));
             let mut out = Outputs::blank(&lent);
-            let got = call(&mut out);
-            let right = got == expected && out.after(fits.as_ref().ok());
+            let (got, kept) = call(&mut out);
+            let right = got == expected && out.after(fits.as_ref().ok()) && kept;
             let what = || {
                 let (held, wanted) = (out.describe(), shown(&fits));
                 format!("into {lent:?} gave {got:?}, not {expected:?}, and left {held}, not {wanted}")

@@ -72,11 +72,12 @@ fn tap(network: &mut Network, branch: usize, random: &mut Random) {
 }
 
 /// Spreads the floats that matter over a network: some networks have plain floats, some small whole
-/// numbers whose sums vanish, the rest keep theirs.
+/// numbers whose sums vanish, some hardly anything but zeros; the rest keep theirs.
 pub fn special(network: &mut Network, random: &mut Random) {
-    match random.below(5) {
+    match random.below(7) {
         0 => fill(network, || random.plain()),
         1 | 2 => fill(network, || whole(random)),
+        3 => fill(network, || random.pick(&[0.0, -0.0, 0.0, -0.0, 1.0])),
         _ => {}
     }
     if random.once_in(5) {

@@ -22,7 +22,7 @@ const OBJECTIVE: u64 = 6;
 const KEPT: [(u64, usize); 7] = [(P, 30), (Q, 20), (A, 75), (B, 45), (CHECK, 15), (PRICES, 25), (OBJECTIVE, 50)];
 
 /// The most records of a kept network.
-const RECORDS: usize = 14;
+const RECORDS: usize = 16;
 
 /// A small network, damaged or not.
 fn network(random: &mut Random, damaged: bool) -> Network {
@@ -68,6 +68,12 @@ fn mostly(random: &mut Random, length: usize) -> Vec<f64> {
     vector(random, length)
 }
 
+/// Whether the sign of the objective's zero is free, so that it is not kept.
+fn is_free(call: &Call, left: &Left) -> bool {
+    let free = Wanted::of(&call.network).sign_is_free(call.numbers[0]);
+    call.entry == OBJECTIVE && left.number == 0 && left.result == 0.0 && free
+}
+
 /// One call of the entry.
 fn one(entry: u64, damaged: bool, random: &mut Random) -> (Call, Left) {
     let network = network(random, damaged);
@@ -96,8 +102,12 @@ pub fn write(words: &mut Words) -> Counts {
     let random = &mut Random::new(22);
     for (entry, count) in KEPT {
         for turn in 0..count {
-            let (call, left) = one(entry, turn % 3 == 2, random);
-            assert!(fits(&call, &left), "a replay has no room for it");
+            let (call, left) = loop {
+                let (call, left) = one(entry, turn % 3 == 2, random);
+                if fits(&call, &left) && !is_free(&call, &left) {
+                    break (call, left);
+                }
+            };
             put(words, &call, &left);
         }
     }

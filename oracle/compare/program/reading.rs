@@ -35,8 +35,9 @@ impl Vectors {
     }
 }
 
-/// The subjects of this part, and how often the free sign of a zero was the other one.
+/// The subjects of this part, how often the sign of a zero was free, and how often it was the other one.
 pub struct Reading {
+    zeros: u64,
     freed: u64,
     check: Subject,
     prices: Subject,
@@ -48,7 +49,7 @@ impl Reading {
     pub fn new() -> Self {
         let [check, prices, objective, parts] =
             ["reading check", "prices", "objective", "parts of x"].map(Subject::new);
-        Reading { freed: 0, check, prices, objective, parts }
+        Reading { zeros: 0, freed: 0, check, prices, objective, parts }
     }
 
     /// Every answer with vectors of the right length, and with others.
@@ -73,9 +74,8 @@ impl Reading {
     fn prices(&mut self, case: &mut Case, v: &Vectors, random: &mut Random) {
         let want = case.wanted.prices(v.z.slice());
         let net = case.net();
-        let call = |out: &mut Outputs| out.one(|prices| socwr::prices(net, v.z.slice(), prices));
+        let call = |out: &mut Outputs| (out.one(|prices| socwr::prices(net, v.z.slice(), prices)), v.kept());
         case.hold_lists(&mut self.prices, random, want, &[4], call);
-        case.hold(&mut self.prices, 0, v.kept(), || format!("prices changed {}", v.describe()));
     }
 
     fn objectives(&mut self, case: &mut Case, v: &Vectors, random: &mut Random) {
@@ -87,9 +87,10 @@ impl Reading {
                 Ok(result) => (0, 0, result),
                 Err(Refused { number, value }) => (number, value, 0.0),
             };
-            let freed = free && got.result == 0.0 && result == 0.0 && !same(got.result, result);
-            self.freed += freed as u64;
-            let result_is = freed || same(got.result, result);
+            let zero = free && number == 0 && got.result == 0.0 && result == 0.0;
+            self.zeros += zero as u64;
+            self.freed += (zero && !same(got.result, result)) as u64;
+            let result_is = zero || same(got.result, result);
             let right = got.number == number && got.value == value && result_is && v.kept();
             let what = || format!("objective {objective} with {solver:?} gave {got:?}, not {want:?}; {}", v.describe());
             case.hold(&mut self.objective, number, right, what);
@@ -112,7 +113,10 @@ impl Reading {
         let subjects = [&self.check, &self.prices, &self.objective, &self.parts];
         // Each prints its line.
         let right = subjects.into_iter().fold(true, |right, subject| subject.done() && right);
-        println!("  of the objectives, {} have the other sign of a zero where it is free", self.freed);
+        println!(
+            "  of {} objectives that are a zero whose sign is free, {} have the other sign",
+            self.zeros, self.freed
+        );
         right
     }
 }
