@@ -117,7 +117,7 @@ fn one_size(buses: u32) -> [f64; 2] {
 
 pub fn print() {
     println!("\nProgram and reading. Each entry checks the records first; the Rust has its network in memory.");
-    println!("The Rust makes all four at once. Its compressed columns are the stand-in's, by one sort of the entries.");
+    println!("The Rust makes all four at once; its compressed columns are the stand-in's, made by counting.");
     let times = [16, 128, 1024, 4096].map(one_size);
     for (what, i) in [("A", 0), ("P, q, A, b", 1)] {
         let (small, large) = (times[2][i], times[3][i]);

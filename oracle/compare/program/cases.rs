@@ -71,6 +71,15 @@ fn tap(network: &mut Network, branch: usize, random: &mut Random) {
     }
 }
 
+/// Other angle and capability flags, which leave the numbering as it is.
+fn flags(network: &mut Network, random: &mut Random) {
+    let Counts { n, m, k, .. } = network.counts;
+    for record in n..n + m + k {
+        let flag = if record < n + m { 2 } else { 1 };
+        network.bytes[RECORD * record as usize + 1] ^= flag * random.below(2) as u8;
+    }
+}
+
 /// Spreads the floats that matter over a network: some networks have plain floats, some small whole
 /// numbers whose sums vanish, some hardly anything but zeros; the rest keep theirs.
 pub fn special(network: &mut Network, random: &mut Random) {
@@ -79,6 +88,9 @@ pub fn special(network: &mut Network, random: &mut Random) {
         1 | 2 => fill(network, || whole(random)),
         3 => fill(network, || random.pick(&[0.0, -0.0, 0.0, -0.0, 1.0])),
         _ => {}
+    }
+    if random.once_in(2) {
+        flags(network, random);
     }
     if random.once_in(5) {
         return;
