@@ -1,4 +1,4 @@
-//! A kept call of an entry on a network: kind 3 of docs/VECTORS.md.
+//! A kept call of an entry on a network: kind 2 of docs/VECTORS.md with records.
 
 use crate::keep::Words;
 use crate::left::{bits, Left};
@@ -8,7 +8,10 @@ use crate::records::Network;
 pub const ROOM: usize = 1024;
 pub const BYTES: usize = 4096;
 
-/// The entry, the network, two numbers, a float, x and z.
+/// The number of the first of these entries in docs/VECTORS.md.
+const FIRST: u64 = 7;
+
+/// The entry, counted from the first of them; the network, two numbers, a float, x and z.
 pub struct Call {
     pub entry: u64,
     pub network: Network,
@@ -26,9 +29,11 @@ pub fn fits(call: &Call, left: &Left) -> bool {
 
 pub fn put(words: &mut Words, call: &Call, left: &Left) {
     let c = call.network.counts;
-    words.words(&[3, call.entry, c.n, c.m, c.k, c.s, call.network.bytes.len() as u64]);
+    words.words(&[2, FIRST + call.entry, c.n, c.m, c.k, c.s, call.network.bytes.len() as u64]);
     words.words(&call.numbers);
-    words.words(&[bits(call.float), call.x.len() as u64, call.z.len() as u64]);
+    words.words(&[0, bits(call.float)]);
+    // x and z are the lists C and D.
+    words.words(&[0, 0, call.x.len() as u64, call.z.len() as u64, 0]);
     left.put_head(words);
     words.bytes(&call.network.bytes);
     call.x.iter().chain(&call.z).for_each(|&x| words.word(bits(x)));

@@ -25,6 +25,8 @@ struct Call {
 
 fn put(words: &mut Words, call: &Call, left: &Left) {
     words.words(&[2, call.entry]);
+    // No network.
+    words.words(&[0; 5]);
     words.words(&call.numbers);
     words.word(bits(call.float));
     call.read.iter().for_each(|list| words.word(list.len() as u64));
