@@ -16,7 +16,7 @@ use tellegen::solve::RawSolution;
 /// Floats of a bus, a branch, a generator and a segment.
 const FLOATS: [usize; 4] = [6, 14, 7, 2];
 
-/// A generator for each bus, every fourth with two segments, and two branches for each bus.
+/// A generator and two branches for each bus; every fourth generator has two segments.
 fn usual(buses: u32) -> Shape {
     let branches =
         (0..buses * 2).map(|e| Branch { from: e % buses, to: (e + 1 + e / buses * 7) % buses, flags: (e % 4) as u8 });
@@ -25,10 +25,17 @@ fn usual(buses: u32) -> Shape {
     Shape { buses, branches: branches.collect(), generators: generators.collect() }
 }
 
+/// As many, with one end of every branch at bus 0.
+fn hub(buses: u32) -> Shape {
+    let other = |e: u32| 1 + e / 2 % (buses - 1);
+    let branches = (0..buses * 2).map(|e| Branch { from: e % 2 * other(e), to: (1 - e % 2) * other(e), flags: 3 });
+    Shape { branches: branches.collect(), ..usual(buses) }
+}
+
 /// The network with plain floats, so that no time goes into rare ones.
-fn plain_network(buses: u32) -> Network {
+fn plain_network(shape: &Shape) -> Network {
     let random = &mut Random::new(5);
-    let mut network = Network::of(&usual(buses), random);
+    let mut network = Network::of(shape, random);
     let Counts { n, m, k, s } = network.counts;
     let kinds = [n, m, k, s].into_iter().zip(FLOATS).flat_map(|(count, floats)| vec![floats; count as usize]);
     for (record, floats) in kinds.enumerate() {
@@ -80,8 +87,8 @@ impl Room {
     }
 }
 
-/// The lines of the program; the time of A and of all four.
-fn assembly(net: Net, rust: &AcNetwork, layout: &SocWrLayout) -> [f64; 2] {
+/// The lines of the program; the time of A, of all four, and of the Rust.
+fn assembly(net: Net, rust: &AcNetwork, layout: &SocWrLayout) -> [f64; 3] {
     let whole = || build_conic_opf(&SocWr::new(), black_box(rust));
     let entries = whole().a.nzval.len();
     let mut generous = Room::new(layout, 2 * entries);
@@ -89,7 +96,7 @@ fn assembly(net: Net, rust: &AcNetwork, layout: &SocWrLayout) -> [f64; 2] {
     line("A, twice the room (the Rust: all four)", || generous.a(net), whole);
     line("A, exactly the room (the Rust: all four)", || exact.a(net), whole);
     line("P, q, A, b", || generous.all(net), whole);
-    [one(|| generous.a(net)), one(|| generous.all(net))]
+    [one(|| generous.a(net)), one(|| generous.all(net)), one(whole)]
 }
 
 /// The lines of the reading. The Rust copies x, z and nine lists besides.
@@ -102,13 +109,13 @@ fn reading(net: Net, rust: &AcNetwork, layout: &SocWrLayout) {
     line("prices and cost (the Rust: all lists)", ours, || read_socwr(black_box(rust), layout, black_box(&raw)));
 }
 
-fn one_size(buses: u32) -> [f64; 2] {
-    let network = plain_network(buses);
+fn one_size(title: &str, shape: &Shape) -> [f64; 3] {
+    let network = plain_network(shape);
     let c = network.counts;
     let net = Net { counts: c, records: &network.bytes };
     let rust = in_memory(&network);
     let layout = SocWrLayout::new(&rust);
-    head(&format!("n {} m {} k {} S {}", c.n, c.m, c.k, c.s));
+    head(&format!("{title}: n {} m {} k {} S {}", c.n, c.m, c.k, c.s));
     line("record check", || socwr::check_records(black_box(net)), || plain::check(black_box(c), &network.bytes));
     let times = assembly(net, &rust, &layout);
     reading(net, &rust, &layout);
@@ -118,8 +125,9 @@ fn one_size(buses: u32) -> [f64; 2] {
 pub fn print() {
     println!("\nProgram and reading. Each entry checks the records first; the Rust has its network in memory.");
     println!("The Rust makes all four at once; its compressed columns are the stand-in's, made by counting.");
-    let times = [16, 128, 1024, 4096].map(one_size);
-    for (what, i) in [("A", 0), ("P, q, A, b", 1)] {
+    let times = [16, 128, 1024, 4096].map(|buses| one_size("usual", &usual(buses)));
+    one_size("hub", &hub(4096));
+    for (i, what) in ["A", "P, q, A, b", "the Rust's"].into_iter().enumerate() {
         let (small, large) = (times[2][i], times[3][i]);
         println!("  {what}: {} at n 4,096, {:.2} times that at 1,024", shown(large), large / small);
     }
