@@ -1,25 +1,18 @@
 //! Compares the C entries of the static library with the oracle, bit for bit.
 //! With `--keep FILE` it writes a sample of the oracle's answers instead.
-//! A part of the entries is compared where it is listed in oracle/parts.
-#![cfg_attr(
-    not(all(part = "combination", part = "program", part = "kkt", part = "columns")),
-    allow(dead_code, unused_mut)
-)]
 
 mod codes;
-#[cfg(part = "columns")]
 mod columns;
-#[cfg(part = "combination")]
 mod combination;
 mod full;
 mod items;
 mod keep;
-#[cfg(part = "kkt")]
 mod kkt;
 mod left;
 mod lent;
 mod on_network;
 mod outcome;
+mod program;
 mod random;
 mod records;
 mod report;
@@ -32,11 +25,9 @@ type Part = fn() -> bool;
 
 fn parts() -> Vec<Part> {
     let mut all: Vec<Part> = vec![sums::compare, records::compare];
-    #[cfg(part = "combination")]
     all.extend(combination::PARTS);
-    #[cfg(part = "kkt")]
+    all.push(program::compare);
     all.push(kkt::compare);
-    #[cfg(part = "columns")]
     all.push(columns::compare);
     all
 }

@@ -82,6 +82,25 @@ extern "C" {
         mode: u64, dim: u64, columns: u64, starts: U32s, starts_len: u64, rows: U32s, rows_len: u64, weights: F64s, weights_len: u64,
         sign: f64, rhs: F64s, rhs_len: u64, solution: F64s, solution_len: u64, out: *mut f64, out_len: u64,
     ) -> Answer;
+    pub fn socwr_program_p(
+        n: u64, m: u64, k: u64, s: u64, records: U8s, records_len: u64,
+        starts: *mut u32, starts_len: u64, rows: *mut u32, rows_len: u64, values: *mut f64, values_len: u64,
+    ) -> Answer;
+    pub fn socwr_program_q(n: u64, m: u64, k: u64, s: u64, records: U8s, records_len: u64, q: *mut f64, q_len: u64) -> Answer;
+    pub fn socwr_program_a(
+        n: u64, m: u64, k: u64, s: u64, records: U8s, records_len: u64,
+        starts: *mut u32, starts_len: u64, rows: *mut u32, rows_len: u64, values: *mut f64, values_len: u64,
+    ) -> Answer;
+    pub fn socwr_program_b(n: u64, m: u64, k: u64, s: u64, records: U8s, records_len: u64, b: *mut f64, b_len: u64) -> Answer;
+    pub fn socwr_reading_check(
+        n: u64, m: u64, k: u64, s: u64, records: U8s, records_len: u64, x: F64s, x_len: u64, z: F64s, z_len: u64,
+    ) -> Answer;
+    pub fn socwr_prices(
+        n: u64, m: u64, k: u64, s: u64, records: U8s, records_len: u64, z: F64s, z_len: u64, prices: *mut f64, prices_len: u64,
+    ) -> Answer;
+    pub fn socwr_objective(
+        n: u64, m: u64, k: u64, s: u64, records: U8s, records_len: u64, objective: u64, x: F64s, x_len: u64, solver: f64,
+    ) -> Scalar;
     pub fn socwr_kkt_entries(
         n: u64, m: u64, k: u64, s: u64, records: U8s, records_len: u64, x: F64s, x_len: u64, z: F64s, z_len: u64,
         rows: *mut u32, rows_len: u64, cols: *mut u32, cols_len: u64, values: *mut f64, values_len: u64,

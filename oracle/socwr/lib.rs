@@ -137,6 +137,44 @@ pub fn combine(
     lent!(socwr_combine(mode, dim, columns ; starts, rows, weights ; sign ; rhs, solution ; out))
 }
 
+/// P by columns; A likewise.
+#[inline]
+pub fn program_p(net: Net, starts: &mut [u32], rows: &mut [u32], values: &mut [f64]) -> Answer {
+    let (s, r, v) = (starts.len() as u64, rows.len() as u64, values.len() as u64);
+    on!(socwr_program_p, net, starts.as_mut_ptr(), s, rows.as_mut_ptr(), r, values.as_mut_ptr(), v)
+}
+
+#[inline]
+pub fn program_a(net: Net, starts: &mut [u32], rows: &mut [u32], values: &mut [f64]) -> Answer {
+    let (s, r, v) = (starts.len() as u64, rows.len() as u64, values.len() as u64);
+    on!(socwr_program_a, net, starts.as_mut_ptr(), s, rows.as_mut_ptr(), r, values.as_mut_ptr(), v)
+}
+
+#[inline]
+pub fn program_q(net: Net, q: &mut [f64]) -> Answer {
+    on!(socwr_program_q, net, q.as_mut_ptr(), q.len() as u64)
+}
+
+#[inline]
+pub fn program_b(net: Net, b: &mut [f64]) -> Answer {
+    on!(socwr_program_b, net, b.as_mut_ptr(), b.len() as u64)
+}
+
+#[inline]
+pub fn reading_check(net: Net, x: &[f64], z: &[f64]) -> Answer {
+    on!(socwr_reading_check, net, x.as_ptr(), x.len() as u64, z.as_ptr(), z.len() as u64)
+}
+
+#[inline]
+pub fn prices(net: Net, z: &[f64], prices: &mut [f64]) -> Answer {
+    on!(socwr_prices, net, z.as_ptr(), z.len() as u64, prices.as_mut_ptr(), prices.len() as u64)
+}
+
+#[inline]
+pub fn objective(net: Net, objective: u64, x: &[f64], solver: f64) -> Scalar {
+    on!(socwr_objective, net, objective, x.as_ptr(), x.len() as u64, solver)
+}
+
 /// Calls an entry on a network that takes slices: those to read, then numbers, then those to write.
 macro_rules! lent_on {
     ($f:ident ( $net:expr ; $($read:ident),* ; $($plain:expr),* ; $($write:ident),* )) => {
