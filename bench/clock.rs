@@ -59,8 +59,9 @@ pub fn head(title: &str) {
     println!("\n{title:<48}{:>12}{:>12}{:>8}", "ours", "Rust", "ratio");
 }
 
-/// A line: what was timed, ours, the Rust's, and ours divided by the Rust's.
-pub fn line<T, U>(what: &str, ours: impl FnMut() -> T, rust: impl FnMut() -> U) {
+/// A line: what was timed, ours, the Rust's, and ours divided by the Rust's. Answers ours.
+pub fn line<T, U>(what: &str, ours: impl FnMut() -> T, rust: impl FnMut() -> U) -> f64 {
     let (a, b) = two(ours, rust);
     println!("  {what:<46}{:>12}{:>12}{:>8.2}", shown(a), shown(b), a / b);
+    a
 }

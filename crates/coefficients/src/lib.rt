@@ -1,0 +1,27 @@
+// What the rows of a branch multiply: its series admittance, the products of its tap, the coefficients of its Ohm rows.
+pub mod inner;
+
+// Per branch: the series admittance and the products of tap. tr = tap cosine, ti = tap sine, tm2 = tap tap.
+pub struct Series {
+    pub g: f64,
+    pub b: f64,
+    pub tr: f64,
+    pub ti: f64,
+    pub tm2: f64,
+}
+
+// Coefficients in the four Ohm rows of a branch.
+pub struct Products {
+    pub pf: f64,
+    pub qf: f64,
+    pub pt: f64,
+    pub qt: f64,
+}
+
+// The Ohm rows of a branch, each with a flow of its own.
+pub enum OhmRow {
+    Pf,
+    Qf,
+    Pt,
+    Qt,
+}
