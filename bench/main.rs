@@ -1,4 +1,4 @@
-//! Times of the entries beside the Rust's, in one run: medians of rounds that take turns.
+//! Times of the entries beside the Rust's, in one run: the least of rounds that take turns.
 
 mod clock;
 mod columns;
