@@ -5,7 +5,7 @@ use mathlib.Core.Bool.{true, false}
 use mathlib.Core.List.{List, map}
 use native.Mathlib.Omega.{arith}
 use native.Mathlib.Nat.{zero-add}
-use borrow.Author.Tests.{le-leb, eqb-true}
+use borrow.Author.Tests.{le-leb}
 use lib.Dec.{T}
 use lib.ListN.{length, length-append}
 use lib.Ieee.{Float}
@@ -13,12 +13,12 @@ use Rattle.lists.specs.Entries.{Entry, rowOf, colOf, valOf}
 use Rattle.lists.specs.Out.{out, Wrote}
 use Rattle.lists.proofs.Sums.{each-length, sum-ones, sum-le}
 use Rattle.lists.proofs.Written.{pos, rows-front, cols-front, vals-front}
-use Rattle.refusals.specs.Refusals.{_orElse_, isRefused, refuseUnless, roomFor, writtenIf, leftIn}
+use Rattle.refusals.specs.Refusals.{_orElse_, isRefused, roomFor, writtenIf, leftIn}
 use Rattle.refusals.specs.declared.Checked.{Checked}
 use Rattle.refusals.specs.declared.Checked.the-variants.{Accepted, Refused}
 use Rattle.refusals.specs.declared.Written.{Written}
 use Rattle.refusals.specs.declared.Written.the-variants as Written
-use Rattle.refusals.proofs.Laws.{orElse-refused, orElse-accepted, accepted-first, passed, held, test-held, has-room, left-written, left-refused, count-written}
+use Rattle.refusals.proofs.Laws.{orElse-refused, orElse-accepted, accepted-first, passed, held, has-room, left-written, left-refused, count-written}
 use Rattle.records.specs.AcNetwork.{AcNetwork}
 use Rattle.records.specs.Network.{networkOf}
 use Rattle.records.specs.Network as Network
@@ -29,23 +29,22 @@ use Rattle.numbering.specs.Layout.{layoutOf, layoutColumns, layoutRows}
 use Rattle.numbering.specs.declared.SocWrLayout.{SocWrLayout}
 use Rattle.kkt.specs.Kkt.{kkt}
 use Rattle.kkt.proofs.Demand3.{kkt-places}
+use Rattle.solution.specs.Lengths.{solutionCause}
+use Rattle.solution.proofs.Lengths.{both-long}
 use Rattle.lines.specs.Line.{networkIn, Network}
 use Rattle.lines.proofs.Lines.{in-range}
 use Rattle.rows.specs.Program.{inequalities}
 use Rattle.numbering.specs.declared.RowName.the-variants.{Wub}
-use Rattle.entries.specs.Writes.{Given, rowIn}
-use Rattle.entries.specs.Answer.{solutionCause, roomCause, Answered, mostOf}
+use Rattle.complementarity.specs.Writes.{Given, rowIn}
+use Rattle.entries.specs.Answer.{roomCause, Answered, mostOf}
 
 -- accepted counts and records with the layout that is worked out of them
 pub network : {n m k s : ℕ} {bytes : List ℕ} {l : SocWrLayout} → Network.Accepted n m k s bytes → l ≡ layoutOf (networkOf n m k s bytes) → Network l bytes
 network {n} {m} {k} {s} {bytes} a e = subst (λ (x : SocWrLayout). Network x bytes) (sym e) (record { accepted = a; layout = refl })
 
 module _ {l : SocWrLayout} {bytes : List ℕ} where
-  pub given : {x z : List Float} → Network l bytes → solutionCause (networkIn l bytes) x z ≡ Accepted → Given l bytes x z
-  unfolding solutionCause
-  given h e =
-      let p = orElse-accepted _ _ e in
-      record { network = h; x-length = eqb-true _ _ (test-held _ _ (p .0)); z-length = eqb-true _ _ (test-held _ _ (p .1)) }
+  pub given : {x z : List Float} → Network l bytes → solutionCause (networkIn l bytes) (length x) (length z) ≡ Accepted → Given l bytes x z
+  given h e = let p = both-long _ _ _ e in record { network = h; x-length = p .0; z-length = p .1 }
 
   -- the list is not longer than demand 3 says
   pub short : {x z : List Float} → Given l bytes x z → (length (kkt (networkIn l bytes) x z) ≤ mostOf l) × (mostOf l + l .n < 2 ^ 31)

@@ -2,24 +2,17 @@
 use Prim.Native.Nat.{ℕ, _+_, _*_}
 use mathlib.Core.Path.{_≡_}
 use mathlib.Core.List.{List, map}
-use lib.Dec.{eqb}
 use lib.ListN.{length}
 use lib.Ieee.{Float}
 use Rattle.lists.specs.Entries.{Entry, rowOf, colOf, valOf}
-use Rattle.refusals.specs.Refusals.{_orElse_, refuseUnless, roomFor, writtenIf, leftIn}
+use Rattle.refusals.specs.Refusals.{_orElse_, roomFor, writtenIf, leftIn}
 use Rattle.refusals.specs.declared.Checked.{Checked}
 use Rattle.refusals.specs.declared.Written.{Written}
-use Rattle.refusals.specs.declared.Refusal.the-variants.{SolutionLength}
-use Rattle.records.specs.AcNetwork.{AcNetwork}
 use Rattle.records.specs.Network.{networkOf}
 use Rattle.records.specs.Check.{checkOf}
-use Rattle.numbering.specs.Numbering.{nvar, ncon}
 use Rattle.numbering.specs.declared.SocWrLayout.{SocWrLayout}
+use Rattle.solution.specs.Lengths.{solutionCause}
 use Rattle.kkt.specs.Kkt.{kkt}
-
--- 6: "x not nvar long, or z not ncon long", "0 for x, else 1"
-unfoldable pub solutionCause : AcNetwork Float → List Float → List Float → Checked
-solutionCause G x z = refuseUnless (eqb (length x) (nvar G)) (SolutionLength 0) orElse refuseUnless (eqb (length z) (ncon G)) (SolutionLength 1)
 
 -- 10: "length needed by the first short one", of three lists of which each needs so many
 unfoldable pub roomCause : ℕ → List ℕ → List ℕ → List Float → Checked
@@ -29,7 +22,7 @@ roomCause need rs cs vs = roomFor need (length rs) orElse roomFor need (length c
 unfoldable pub kktCheck : (n m k s : ℕ) (bytes : List ℕ) (x z : List Float) (rs cs : List ℕ) (vs : List Float) → Checked
 kktCheck n m k s bytes x z rs cs vs =
     checkOf n m k s bytes
-    orElse solutionCause (networkOf n m k s bytes) x z
+    orElse solutionCause (networkOf n m k s bytes) (length x) (length z)
     orElse roomCause (length (kkt (networkOf n m k s bytes) x z)) rs cs vs
 
 -- the answer w, and the lists that were rs, cs, vs and are now rs′, cs′, vs′: after a check that accepts, the count and the entries over

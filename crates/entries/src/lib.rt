@@ -1,76 +1,30 @@
 // The entries of the KKT matrix, written to three lent lists.
-mod blocks;
-mod bounds;
-mod cones;
-mod ohm;
-mod segments;
-mod single;
 mod whole;
 
 use numbering::SocWrLayout;
 use refusals::Checked;
-use refusals::Refusal;
 use refusals::Written;
 use refusals::is_refused;
 use refusals::or_else;
-use refusals::refuse_unless;
 use refusals::room_for;
 use refusals::written_if;
+use solution::inner::solution_cause;
 ghost use mathlib.Core.Path.{_≡_};
 ghost use lib.ListN.{length};
 ghost use Rattle.records.specs.Network.{networkOf};
 ghost use Rattle.numbering.specs.Layout.{InRange};
 ghost use Rattle.kkt.specs.Kkt.{kkt};
 ghost use Rattle.refusals.specs.Refusals.{_orElse_};
+ghost use Rattle.solution.specs.Lengths.{solutionCause};
 ghost use Rattle.lines.specs.Line.{networkIn, Network};
-ghost use Rattle.entries.specs.Writes.{Given};
-ghost use Rattle.entries.specs.Answer.{solutionCause, roomCause, kktCheck, Answered, mostOf};
-
-// A float for each row of a cone.
-pub struct Quad {
-    pub a: f64,
-    pub b: f64,
-    pub c: f64,
-    pub d: f64,
-}
-
-// The kinds of rows that bound one thing each: a voltage, a dispatch, an angle.
-pub enum Bound {
-    Wub,
-    Wlb,
-    Pgub,
-    Pglb,
-    Qgub,
-    Qglb,
-    Angub,
-    Anglb,
-}
-
-// The kinds of Ohm rows.
-pub enum Flow {
-    Pf,
-    Qf,
-    Pt,
-    Qt,
-}
+ghost use Rattle.complementarity.specs.Writes.{Given};
+ghost use Rattle.entries.specs.Answer.{roomCause, kktCheck, Answered, mostOf};
 
 fn most(l: SocWrLayout) -> usize
     requires { ⌜ InRange l ⌝ }
     ensures { λ r. ⌜ r ≡ mostOf l ⌝ }
 {
     10 * l.n + 17 * l.k + 82 * l.m + 5 * l.s + 26 * l.t
-}
-
-fn solution_cause(l: SocWrLayout, bytes: &[u8], x: &[f64], z: &[f64]) -> Checked
-    requires { ⌜ Network l (now bytes) ⌝ }
-    ensures { λ r. ⌜ r ≡ solutionCause (networkIn l (now (bytes .entry))) (now (x .entry)) (now (z .entry)) ⌝ }
-{
-    let nvar = lines::inner::wide(numbering::inner::nvar(l));
-    let ncon = lines::inner::wide(numbering::inner::ncon(l));
-    or_else(
-        refuse_unless(x.len() == nvar, Refusal::SolutionLength(0)),
-        refuse_unless(z.len() == ncon, Refusal::SolutionLength(1)),
-    )
 }
 
 fn room_cause(need: usize, rows: &[u32], cols: &[u32], vals: &[f64]) -> Checked
@@ -135,9 +89,9 @@ fn kkt_checked(
     vals: &mut [f64],
 ) -> Written
     requires { ⌜ Network l (now bytes) ⌝ }
-    ensures { λ w. ⌜ Answered (solutionCause (networkIn l (now (bytes .entry))) (now (x .entry)) (now (z .entry)) orElse roomCause (length (kkt (networkIn l (now (bytes .entry))) (now (x .entry)) (now (z .entry)))) (now (rows .entry)) (now (cols .entry)) (now (vals .entry))) (kkt (networkIn l (now (bytes .entry))) (now (x .entry)) (now (z .entry))) (now (rows .entry)) (now (cols .entry)) (now (vals .entry)) (now (rows .exit)) (now (cols .exit)) (now (vals .exit)) w ⌝ }
+    ensures { λ w. ⌜ Answered (solutionCause (networkIn l (now (bytes .entry))) (length (now (x .entry))) (length (now (z .entry))) orElse roomCause (length (kkt (networkIn l (now (bytes .entry))) (now (x .entry)) (now (z .entry)))) (now (rows .entry)) (now (cols .entry)) (now (vals .entry))) (kkt (networkIn l (now (bytes .entry))) (now (x .entry)) (now (z .entry))) (now (rows .entry)) (now (cols .entry)) (now (vals .entry)) (now (rows .exit)) (now (cols .exit)) (now (vals .exit)) w ⌝ }
 {
-    let sizes = solution_cause(l, bytes, x, z);
+    let sizes = solution_cause(l, bytes, x.len(), z.len());
     if is_refused(sizes) {
         return written_if(sizes, 0);
     }

@@ -5,7 +5,6 @@ use mathlib.Core.List.{List, [], _∷_, _++_}
 use lib.Ieee.{Float}
 use Rattle.lists.specs.Entries.{Entry, entry}
 use Rattle.records.specs.AcNetwork.{AcNetwork}
-use Rattle.records.specs.Network.{branchOf}
 use Rattle.numbering.specs.Numbering.{ncon, rowNumber}
 use Rattle.numbering.specs.Layout.{layoutColumn}
 use Rattle.numbering.specs.declared.SocWrLayout.{SocWrLayout}
@@ -13,19 +12,7 @@ use Rattle.numbering.specs.declared.ColumnName.the-variants.{W, Wr, Wi}
 use Rattle.numbering.specs.declared.RowName.{RowName}
 use Rattle.rows.specs.Rows.{terms, constant64, one}
 use Rattle.rows.specs.Program.{inRow, nonzero}
-use Rattle.lines.specs.declared.Series.{Series}
 use Rattle.lines.specs.declared.Ohm.{Ohm}
-
--- "a struct of five floats: g, b, tr, ti, tm2"
-abbrev pub seriesOf : List ℕ → ℕ → Series
-seriesOf bytes r =
-    record {
-      g = branchOf bytes r .g;
-      b = branchOf bytes r .b;
-      tr = branchOf bytes r .tr;
-      ti = branchOf bytes r .ti;
-      tm2 = branchOf bytes r .tm2;
-    }
 
 -- the row of branch e with w of a bus
 abbrev pub ohmOf : SocWrLayout → ℕ → ℕ → ℕ → ℕ → Float → Float → Float → Ohm

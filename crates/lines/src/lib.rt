@@ -24,15 +24,6 @@ pub struct Cone {
     pub d: Line,
 }
 
-// The series admittance of a branch and the products of its tap: tap cosine, tap sine, tap tap.
-pub struct Series {
-    pub g: f64,
-    pub b: f64,
-    pub tr: f64,
-    pub ti: f64,
-    pub tm2: f64,
-}
-
 // An Ohm row: its number, its columns, and the coefficients of w, wr and wi. That of the flow is 1.
 pub struct Ohm {
     pub row: u32,

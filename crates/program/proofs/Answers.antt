@@ -24,10 +24,10 @@ use Rattle.records.specs.AcNetwork.{AcNetwork}
 use Rattle.numbering.specs.Layout.{layoutOf}
 use Rattle.numbering.proofs.Layouts.{accepted-range}
 use Rattle.numbering.specs.declared.SocWrLayout.{SocWrLayout}
-use Rattle.program.specs.Ready.{Ready, netOf}
+use Rattle.cells.specs.Ready.{Ready, netOf}
 use Rattle.program.specs.Answered.{roomCause, floatsCheck, FloatsWritten, columnsCheck, ColumnsWritten}
-use Rattle.program.specs.Columns.{Whole}
-use Rattle.program.proofs.Ends.{whole-count, whole-starts, whole-rows, whole-vals}
+use Rattle.cells.specs.Columns.{Whole}
+use Rattle.cells.proofs.Ends.{whole-count, whole-starts, whole-rows, whole-vals}
 
 -- ---- accepted records
 
@@ -120,7 +120,11 @@ module _ {check : Checked} {cs : List (List Cell)} {ss₀ rs₀ : List ℕ} {vs�
         values = whole-vals w q ∙ sym (left-written _ vs₀ o);
       }
 
--- ---- of equal networks
+-- ---- an accepted check, and equal networks
+
+pub columns-checked : {check : Checked} {cs : List (List Cell)} {ss₀ rs₀ ss rs : List ℕ} {vs₀ vs : List Float} {r : Written} → check ≡ Accepted
+    → ColumnsWritten Accepted cs ss₀ rs₀ vs₀ ss rs vs r → ColumnsWritten check cs ss₀ rs₀ vs₀ ss rs vs r
+columns-checked e h = rw e h
 
 pub floats-of : (f : AcNetwork Float → List Float) {G H : AcNetwork Float} {check : Checked} {ys₀ ys : List Float} {r : Written}
     → G ≡ H → FloatsWritten check (f G) ys₀ ys r → FloatsWritten check (f H) ys₀ ys r

@@ -1,12 +1,1 @@
-pub mod Fills
-pub mod LastBlock
-pub mod Ratings
-pub mod RightSide
-pub mod Ends
-pub mod Quad
 pub mod Answers
-pub mod Dealing
-pub mod BusColumns
-pub mod Counts
-pub mod Written
-pub mod PartsOfA

@@ -1,12 +1,1 @@
-pub mod Ready
 pub mod Answered
-pub mod Sides
-pub mod Filled
-pub mod Columns
-pub mod Quadratic
-pub mod Deal
-pub mod Series
-pub mod Buses
-pub mod Cursors
-pub mod Writers
-pub mod Parts

@@ -8,39 +8,7 @@ ghost use Rattle.rows.specs.Program.{linear, matrix};
 ghost use Rattle.matrix.specs.Lists.{rightSide, quadraticMatrix};
 ghost use Rattle.program.specs.Answered.{FloatsWritten, ColumnsWritten};
 
-// Per branch: the series admittance and the products of tap. tr = tap cosine, ti = tap sine, tm2 = tap tap.
-pub struct Series {
-    pub g: f64,
-    pub b: f64,
-    pub tr: f64,
-    pub ti: f64,
-    pub tm2: f64,
-}
-
-// Coefficients in the four Ohm rows of a branch.
-pub struct Products {
-    pub pf: f64,
-    pub qf: f64,
-    pub pt: f64,
-    pub qt: f64,
-}
-
-// The Ohm rows of a branch, each with a flow of its own.
-pub enum OhmRow {
-    Pf,
-    Qf,
-    Pt,
-    Qt,
-}
-
-mod assembly;
-mod branches;
-mod buses;
-mod generators;
-pub mod inner;
-mod put;
-mod quadratic;
-mod sides;
+mod sized;
 
 // b: ncon floats.
 pub fn program_b(n: usize, m: usize, k: usize, s: usize, bytes: &[u8], b: &mut [f64]) -> Written
@@ -55,7 +23,7 @@ pub fn program_b(n: usize, m: usize, k: usize, s: usize, bytes: &[u8], b: &mut [
     if b.len() < need {
         return Written::Refused(Refusal::OutputTooShort(need as u64));
     }
-    sides::fill_b(b, l, bytes);
+    sides::inner::fill_b(b, l, bytes);
     Written::Count(need as u64)
 }
 
@@ -72,7 +40,7 @@ pub fn program_q(n: usize, m: usize, k: usize, s: usize, bytes: &[u8], q: &mut [
     if q.len() < need {
         return Written::Refused(Refusal::OutputTooShort(need as u64));
     }
-    sides::fill_q(q, l, bytes);
+    sides::inner::fill_q(q, l, bytes);
     Written::Count(need as u64)
 }
 
@@ -98,14 +66,14 @@ pub fn program_p(
     if starts.len() < need {
         return Written::Refused(Refusal::OutputTooShort(need as u64));
     }
-    let count = quadratic::count_p(l, bytes);
+    let count = sides::inner::quadratic::count_p(l, bytes);
     if rows.len() < count {
         return Written::Refused(Refusal::OutputTooShort(count as u64));
     }
     if values.len() < count {
         return Written::Refused(Refusal::OutputTooShort(count as u64));
     }
-    let written = quadratic::fill_p(starts, rows, values, l, bytes);
+    let written = sides::inner::quadratic::fill_p(starts, rows, values, l, bytes);
     Written::Count(written as u64)
 }
 
@@ -131,13 +99,5 @@ pub fn program_a(
     if starts.len() < need {
         return Written::Refused(Refusal::OutputTooShort(need as u64));
     }
-    let count = assembly::count_a(l, bytes);
-    if rows.len() < count {
-        return Written::Refused(Refusal::OutputTooShort(count as u64));
-    }
-    if values.len() < count {
-        return Written::Refused(Refusal::OutputTooShort(count as u64));
-    }
-    let written = assembly::fill_a(starts, rows, values, l, bytes);
-    Written::Count(written as u64)
+    sized::put_a(starts, rows, values, l, bytes)
 }

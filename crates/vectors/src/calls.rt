@@ -52,7 +52,7 @@ pub struct Head {
     pub want: Answered,
 }
 
-fn net() -> Net {
+fn next_net() -> Net {
     let n = word();
     let m = word();
     let k = word();
@@ -67,7 +67,7 @@ fn net() -> Net {
     }
 }
 
-fn given() -> Given {
+fn next_given() -> Given {
     let a = word();
     let b = word();
     let c = word();
@@ -80,7 +80,7 @@ fn given() -> Given {
     }
 }
 
-fn reads() -> Reads {
+fn next_reads() -> Reads {
     let a = word();
     let b = word();
     let c = word();
@@ -95,7 +95,7 @@ fn reads() -> Reads {
     }
 }
 
-fn writes() -> Writes {
+fn next_writes() -> Writes {
     let p = word();
     let q = word();
     let r = word();
@@ -108,7 +108,7 @@ fn writes() -> Writes {
     }
 }
 
-fn answered() -> Answered {
+fn next_answered() -> Answered {
     let number = word();
     let value = word();
     let result = float();
@@ -119,13 +119,13 @@ fn answered() -> Answered {
     }
 }
 
-fn head() -> Head {
+fn next_head() -> Head {
     let entry = word();
-    let net = net();
-    let given = given();
-    let reads = reads();
-    let writes = writes();
-    let want = answered();
+    let net = next_net();
+    let given = next_given();
+    let reads = next_reads();
+    let writes = next_writes();
+    let want = next_answered();
     Head {
         entry: entry,
         net: net,
@@ -137,7 +137,7 @@ fn head() -> Head {
 }
 
 pub(crate) fn call(t: Tally) -> Tally {
-    let h = head();
+    let h = next_head();
     let mut records = io::buffer();
     let end = parts::of_bytes(h.net.length, &records);
     with_records(h, &mut records[..end], t)

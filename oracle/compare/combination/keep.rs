@@ -4,8 +4,8 @@ use super::combine;
 use super::lists::{lengths, Entries, Items};
 use super::matrix;
 use super::residual;
-use super::scale::{operands, parameters};
 use super::transpose;
+use crate::codes::{named, OPERANDS, PARAMETERS};
 use crate::keep::{Counts, Words};
 use crate::left::{bits, left, Left};
 use crate::random::Random;
@@ -40,8 +40,7 @@ fn put(words: &mut Words, call: &Call, left: &Left) {
 fn unit_scale(random: &mut Random) -> (Call, Left) {
     let (o, p) = (random.below(15), random.below(21));
     let base = if random.once_in(3) { 4.0 } else { random.float() };
-    let pair = (operands().get(o as usize).copied(), parameters().get(p as usize).copied());
-    let (number, result) = match pair {
+    let (number, result) = match (named(&OPERANDS, o), named(&PARAMETERS, p)) {
         (Some(o), Some(p)) => (0, served_unit_scale(o, p, base)),
         _ => (9, 0.0),
     };

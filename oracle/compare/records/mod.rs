@@ -11,4 +11,4 @@ mod wanted;
 
 pub use ground::compare;
 pub use keep::write as keep;
-pub use network::Network;
+pub use network::{Branch, Generator, Network, Shape};

@@ -3,33 +3,17 @@ use super::line;
 use super::pick;
 use super::spot;
 use crate::Line;
+use branch::inner::conic_angle_bound_active;
 use numbering::SocWrLayout;
 use numbering::inner::col_wi;
 use numbering::inner::col_wr;
 use numbering::inner::r_anglb;
 use numbering::inner::r_angub;
-use records::inner::angle_bound_active;
-use records::inner::angmax;
-use records::inner::angmin;
 use records::inner::tan_angmax;
 use records::inner::tan_angmin;
-ghost use mathlib.Core.Path.{_≡_};
-ghost use Prim.Native.Nat.{_+_, _*_, _≤_, _<_};
-ghost use lib.ListN.{length};
-ghost use Rattle.records.specs.Fields.{angledOf};
+ghost use Prim.Native.Nat.{_<_};
 ghost use Rattle.numbering.specs.declared.RowName.the-variants.{Angub, Anglb};
 ghost use Rattle.lines.specs.Line.{Network, networkIn, Stands};
-
-// The flag is set, and the bounds are not as wide as the whole circle.
-pub fn conic_angle_bound_active(b: &[u8], r: usize) -> bool
-    requires { ⌜ 128 * r + 128 ≤ length (now b) ⌝ }
-    ensures { λ x. ⌜ x ≡ angledOf (now (b .entry)) r ⌝ }
-{
-    let flag = angle_bound_active(b, r);
-    let low = angmin(b, r);
-    let high = angmax(b, r);
-    flag & !((low <= -3.141592653589793) & (high >= 3.141592653589793))
-}
 
 pub fn angub(l: SocWrLayout, bytes: &[u8], e: usize) -> Line
     requires { ⌜ Network l (now bytes) ⌝ }

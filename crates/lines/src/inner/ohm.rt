@@ -1,7 +1,7 @@
 // The Ohm rows of a branch.
 use super::wide;
 use crate::Ohm;
-use crate::Series;
+use branch::inner::series;
 use numbering::SocWrLayout;
 use numbering::inner::col_pf;
 use numbering::inner::col_pt;
@@ -14,39 +14,18 @@ use numbering::inner::r_ohm_pf;
 use numbering::inner::r_ohm_pt;
 use numbering::inner::r_ohm_qf;
 use numbering::inner::r_ohm_qt;
-use records::inner::b;
 use records::inner::b_fr;
 use records::inner::b_to;
 use records::inner::br_from;
 use records::inner::br_to;
-use records::inner::cos_shift;
-use records::inner::g;
 use records::inner::g_fr;
 use records::inner::g_to;
-use records::inner::sin_shift;
-use records::inner::tap;
 ghost use mathlib.Core.Path.{_≡_};
-ghost use Prim.Native.Nat.{_+_, _*_, _≤_, _<_};
-ghost use lib.ListN.{length};
+ghost use Prim.Native.Nat.{_<_};
 ghost use Rattle.numbering.specs.Layout.{InRange};
 ghost use Rattle.numbering.specs.declared.RowName.the-variants.{OhmPf, OhmQf, OhmPt, OhmQt};
 ghost use Rattle.lines.specs.Line.{Network, networkIn};
-ghost use Rattle.lines.specs.Ohm.{seriesOf, ohmOf, OhmStands};
-
-// The branch of record r.
-pub fn series(bytes: &[u8], r: usize) -> Series
-    requires { ⌜ 128 * r + 128 ≤ length (now bytes) ⌝ }
-    ensures { λ x. ⌜ x ≡ seriesOf (now (bytes .entry)) r ⌝ }
-{
-    let t = tap(bytes, r);
-    Series {
-        g: g(bytes, r),
-        b: b(bytes, r),
-        tr: t * cos_shift(bytes, r),
-        ti: t * sin_shift(bytes, r),
-        tm2: t * t,
-    }
-}
+ghost use Rattle.lines.specs.Ohm.{ohmOf, OhmStands};
 
 fn ohm(
     l: SocWrLayout,

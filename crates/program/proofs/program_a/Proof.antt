@@ -1,5 +1,4 @@
 -- `program::program_a` meets its contract. Assumes nothing.
-use borrow.Author.Needs.{needs}
 use mathlib.Core.Path.{_≡_, sym, _∙_}
 use native.Mathlib.Omega.{arith}
 use denote.Ref.{now}
@@ -8,8 +7,9 @@ use Rattle.records.proofs.Laws.{accepted}
 use Rattle.refusals.proofs.Laws.{passed}
 use Rattle.refusals.specs.declared.Checked.the-variants.{Accepted}
 use Rattle.rows.specs.Program.{matrix}
-use Rattle.program.proofs.PartsOfA.{matrix-starts}
-use Rattle.program.proofs.Answers.{ready, net-is, columns-refused, short-starts, short-rows, short-vals, columns-written, columns-of}
+use Rattle.assembly.proofs.PartsOfA.{matrix-starts}
+use Rattle.program.proofs.Answers.{ready, net-is, columns-refused, short-starts, columns-checked, columns-of}
+use borrow.Author.Needs.{needs}
 use Rattle.program.proofs.program_a.Statement.{statement}
 use Rattle.program.proofs.program_a.Tie as tie
 
@@ -41,51 +41,21 @@ returns-2 c =
     let hs = matrix-starts (c .before .before .layout .result) b r in
     columns-of matrix e (short-starts o (omega (arith, hs, c .before .nvar .ensures)) (c .if2 .taken))
 
-count-a-requires : tie.Need-count-a-requires
-count-a-requires c κs =
-    let a = c .before .before .before .before .before .before .before .before .before .before .args in
-    let b = now (a .bytes) in
-    let o : checkOf (a .n) (a .m) (a .k) (a .s) b ≡ Accepted = sym (c .before .before .before .before .before .check-records .ensures) ∙ passed _ (sym (c .before .before .before .before .is-refused .ensures) ∙ c .before .before .before .if1 .left) in
-    let r = ready (a .n) (a .m) (a .k) (a .s) b (accepted (a .n) (a .m) (a .k) (a .s) b o) (c .before .before .layout .ensures) in
-    r
-
-returns-3 : tie.Need-returns-3
-returns-3 c =
-    let a = c .before .before .before .before .before .before .before .before .before .before .before .before .args in
-    let b = now (a .bytes) in
-    let o : checkOf (a .n) (a .m) (a .k) (a .s) b ≡ Accepted = sym (c .before .before .before .before .before .before .before .check-records .ensures) ∙ passed _ (sym (c .before .before .before .before .before .before .is-refused .ensures) ∙ c .before .before .before .before .before .if1 .left) in
-    let r = ready (a .n) (a .m) (a .k) (a .s) b (accepted (a .n) (a .m) (a .k) (a .s) b o) (c .before .before .before .before .layout .ensures) in
-    let e = net-is (a .n) (a .m) (a .k) (a .s) b (c .before .before .before .before .layout .ensures) in
-    let hs = matrix-starts (c .before .before .before .before .layout .result) b r in
-    columns-of matrix e (short-rows o (omega (arith, hs, c .before .before .before .nvar .ensures, c .before .before .if2 .left)) (c .before .count-a .ensures) (c .if3 .taken))
-
-returns-4 : tie.Need-returns-4
-returns-4 c =
+put-a-requires : tie.Need-put-a-requires
+put-a-requires c κs =
     let a = c .before .before .before .before .before .before .before .before .before .before .before .before .before .args in
     let b = now (a .bytes) in
     let o : checkOf (a .n) (a .m) (a .k) (a .s) b ≡ Accepted = sym (c .before .before .before .before .before .before .before .before .check-records .ensures) ∙ passed _ (sym (c .before .before .before .before .before .before .before .is-refused .ensures) ∙ c .before .before .before .before .before .before .if1 .left) in
     let r = ready (a .n) (a .m) (a .k) (a .s) b (accepted (a .n) (a .m) (a .k) (a .s) b o) (c .before .before .before .before .before .layout .ensures) in
-    let e = net-is (a .n) (a .m) (a .k) (a .s) b (c .before .before .before .before .before .layout .ensures) in
-    let hs = matrix-starts (c .before .before .before .before .before .layout .result) b r in
-    columns-of matrix e (short-vals o (omega (arith, hs, c .before .before .before .before .nvar .ensures, c .before .before .before .if2 .left)) (c .before .before .count-a .ensures) (c .before .if3 .left) (c .if4 .taken))
+    (r, omega (arith, c .before .before .before .before .nvar .ensures, c .before .before .before .if2 .left))
 
-fill-a-requires : tie.Need-fill-a-requires
-fill-a-requires c κs =
-    let a = c .before .before .before .before .before .before .before .before .before .before .before .before .before .before .before .before .args in
+returns-3 : tie.Need-returns-3
+returns-3 c =
+    let a = c .before .before .before .before .before .before .before .before .before .before .before .before .before .before .before .before .before .before .before .before .args in
     let b = now (a .bytes) in
-    let o : checkOf (a .n) (a .m) (a .k) (a .s) b ≡ Accepted = sym (c .before .before .before .before .before .before .before .before .before .before .before .check-records .ensures) ∙ passed _ (sym (c .before .before .before .before .before .before .before .before .before .before .is-refused .ensures) ∙ c .before .before .before .before .before .before .before .before .before .if1 .left) in
-    let r = ready (a .n) (a .m) (a .k) (a .s) b (accepted (a .n) (a .m) (a .k) (a .s) b o) (c .before .before .before .before .before .before .before .before .layout .ensures) in
-    (r, omega (arith, c .before .before .before .before .before .before .before .nvar .ensures, c .before .before .before .before .before .before .if2 .left))
-
-returns-5 : tie.Need-returns-5
-returns-5 c =
-    let a = c .before .before .before .before .before .before .before .before .before .before .before .before .before .before .before .before .before .before .before .before .before .before .before .args in
-    let b = now (a .bytes) in
-    let o : checkOf (a .n) (a .m) (a .k) (a .s) b ≡ Accepted = sym (c .before .before .before .before .before .before .before .before .before .before .before .before .before .before .before .before .before .before .check-records .ensures) ∙ passed _ (sym (c .before .before .before .before .before .before .before .before .before .before .before .before .before .before .before .before .before .is-refused .ensures) ∙ c .before .before .before .before .before .before .before .before .before .before .before .before .before .before .before .before .if1 .left) in
-    let r = ready (a .n) (a .m) (a .k) (a .s) b (accepted (a .n) (a .m) (a .k) (a .s) b o) (c .before .before .before .before .before .before .before .before .before .before .before .before .before .before .before .layout .ensures) in
-    let e = net-is (a .n) (a .m) (a .k) (a .s) b (c .before .before .before .before .before .before .before .before .before .before .before .before .before .before .before .layout .ensures) in
-    let hs = matrix-starts (c .before .before .before .before .before .before .before .before .before .before .before .before .before .before .before .layout .result) b r in
-    columns-of matrix e (columns-written o (omega (arith, hs, c .before .before .before .before .before .before .before .before .before .before .before .before .before .before .nvar .ensures, c .before .before .before .before .before .before .before .before .before .before .before .before .before .if2 .left)) (omega (arith, c .before .before .before .before .before .before .before .before .before .before .before .before .count-a .ensures, c .before .before .before .before .before .before .before .before .before .before .before .if3 .left)) (omega (arith, c .before .before .before .before .before .before .before .before .before .before .before .before .count-a .ensures, c .before .before .before .before .before .before .before .before .before .before .if4 .left)) (c .before .before .before .before .before .before .fill-a .ensures))
+    let o : checkOf (a .n) (a .m) (a .k) (a .s) b ≡ Accepted = sym (c .before .before .before .before .before .before .before .before .before .before .before .before .before .before .before .check-records .ensures) ∙ passed _ (sym (c .before .before .before .before .before .before .before .before .before .before .before .before .before .before .is-refused .ensures) ∙ c .before .before .before .before .before .before .before .before .before .before .before .before .before .if1 .left) in
+    let e = net-is (a .n) (a .m) (a .k) (a .s) b (c .before .before .before .before .before .before .before .before .before .before .before .before .layout .ensures) in
+    columns-of matrix e (columns-checked o (c .before .before .before .before .before .before .put-a .ensures))
 
 pub program-a-spec : {M : Type 1} → statement M
-program-a-spec = tie.close (tie.spec (λ c κs. search needs) (λ c κs. search needs) (λ c κs. search needs) returns layout-requires nvar-requires (λ c. search needs) (λ c. search needs) returns-2 count-a-requires returns-3 returns-4 fill-a-requires (λ c. search needs) (λ c. search needs) (λ c. search needs) returns-5)
+program-a-spec = tie.close (tie.spec (λ c κs. search needs) (λ c κs. search needs) (λ c κs. search needs) returns layout-requires nvar-requires (λ c. search needs) (λ c. search needs) returns-2 put-a-requires (λ c. search needs) (λ c. search needs) (λ c. search needs) returns-3)

@@ -8,7 +8,7 @@ use Rattle.records.proofs.Laws.{accepted}
 use Rattle.refusals.proofs.Laws.{passed}
 use Rattle.refusals.specs.declared.Checked.the-variants.{Accepted}
 use Rattle.matrix.specs.Lists.{rightSide}
-use Rattle.program.proofs.RightSide.{right-length}
+use Rattle.sides.proofs.RightSide.{right-length}
 use Rattle.program.proofs.Answers.{ready, net-is, floats-refused, floats-short, floats-written, floats-of}
 use Rattle.program.proofs.program_b.Statement.{statement}
 use Rattle.program.proofs.program_b.Tie as tie

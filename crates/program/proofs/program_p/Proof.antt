@@ -8,7 +8,7 @@ use Rattle.records.proofs.Laws.{accepted}
 use Rattle.refusals.proofs.Laws.{passed}
 use Rattle.refusals.specs.declared.Checked.the-variants.{Accepted}
 use Rattle.matrix.specs.Lists.{quadraticMatrix}
-use Rattle.program.proofs.Quad.{quad-count, quad-starts}
+use Rattle.sides.proofs.Quad.{quad-count, quad-starts}
 use Rattle.program.proofs.Answers.{ready, net-is, columns-refused, short-starts, short-rows, short-vals, columns-written, columns-of}
 use Rattle.program.proofs.program_p.Statement.{statement}
 use Rattle.program.proofs.program_p.Tie as tie

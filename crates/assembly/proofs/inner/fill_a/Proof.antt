@@ -1,0 +1,39 @@
+-- `assembly::inner::fill_a` meets its contract. Assumes nothing.
+use borrow.Author.Needs.{needs}
+use native.Mathlib.Omega.{arith}
+use lib.ListN.{length-append}
+use denote.Ref.{now}
+use Rattle.lists.specs.UpTo.{listed}
+use Rattle.matrix.specs.Columns.{wCells}
+use Rattle.cells.specs.Ready.{netOf}
+use Rattle.assembly.specs.Parts.{generatorColumns}
+use Rattle.cells.proofs.Fills.{listed-length}
+use Rattle.cells.proofs.Ends.{columns-then}
+use Rattle.assembly.proofs.PartsOfA.{generators-length, matrix-parts}
+use Rattle.assembly.proofs.inner.fill_a.Statement.{statement}
+use Rattle.assembly.proofs.inner.fill_a.Tie as tie
+
+fill-buses-requires : tie.Need-fill-buses-requires
+fill-buses-requires c κs = (c .before .before .before .before .before .before .before .before .before .before .before .before .before .before .before .before .before .before .before .before .before .pre .0, (omega (arith, c .before .before .before .before .before .before .before .before .before .fill-generators .ensures .1, c .before .before .before .before .before .before .before .before .before .before .before .before .before .before .before .before .before .before .before .before .before .pre .0 .range .k-range, c .before .before .before .before .before .before .before .before .before .before .before .before .before .before .before .before .before .before .before .before .before .pre .0 .range .s-range), omega (arith, c .before .before .before .before .before .before .before .before .before .before .before .before .before .before .before .before .before .before .before .before .before .pre .1, c .before .before .before .before .before .before .before .before .before .before .before .before .before .before .before .store-u32 .kept .0, c .before .before .before .before .before .before .before .before .before .fill-generators .kept .0)))
+
+fill-branches-requires : tie.Need-fill-branches-requires
+fill-branches-requires c κs = (c .before .before .before .before .before .before .before .before .before .before .before .before .before .before .before .before .before .before .before .before .before .before .before .before .before .before .before .before .before .before .before .pre .0, omega (arith, c .before .before .before .before .before .before .before .before .before .before .before .before .before .before .before .before .before .before .before .fill-generators .ensures .1, c .before .before .before .before .before .before .before .before .before .fill-buses .ensures .1, c .before .before .before .before .before .before .before .before .before .before .before .before .before .before .before .before .before .before .before .before .before .before .before .before .before .before .before .before .before .before .before .pre .0 .range .n-range, c .before .before .before .before .before .before .before .before .before .before .before .before .before .before .before .before .before .before .before .before .before .before .before .before .before .before .before .before .before .before .before .pre .0 .range .m-range, c .before .before .before .before .before .before .before .before .before .before .before .before .before .before .before .before .before .before .before .before .before .before .before .before .before .before .before .before .before .before .before .pre .0 .range .k-range, c .before .before .before .before .before .before .before .before .before .before .before .before .before .before .before .before .before .before .before .before .before .before .before .before .before .before .before .before .before .before .before .pre .0 .range .s-range))
+
+returns : tie.Need-returns
+returns c =
+    let a = c .before .before .before .before .before .before .before .before .before .before .before .before .before .before .before .before .before .before .before .before .before .before .before .before .before .before .before .before .before .before .before .before .before .before .before .before .before .before .args in
+    let b = now (a .bytes) in
+    let G = netOf (a .l) b in
+    let lg = generators-length (a .l) b in
+    let lw = listed-length (wCells G) (a .l .n) in (
+      record {
+        columns =
+            rw (matrix-parts (a .l) b (c .before .before .before .before .before .before .before .before .before .before .before .before .before .before .before .before .before .before .before .before .before .before .before .before .before .before .before .before .before .before .before .before .before .before .before .before .before .before .pre .0))
+            (columns-then (columns-then (rw (c .before .before .before .before .before .before .before .before .before .before .before .before .before .before .before .before .before .before .before .before .before .before .before .before .before .before .before .before .before .before .before .before .store-u32 .ensures) at (c .before .before .before .before .before .before .before .before .before .before .before .before .before .before .before .before .before .before .before .before .before .before .before .before .before .before .fill-generators .ensures .0)) (omega (arith, lg)) (c .before .before .before .before .before .before .before .before .before .before .before .before .before .before .before .before .fill-buses .ensures .0))
+            (omega (arith, lg, lw, length-append (generatorColumns G) (listed (a .l .n) (wCells G)))) (c .before .before .before .before .before .before .fill-branches .ensures .0));
+      },
+      omega (arith, c .before .before .before .before .before .before .before .before .before .before .before .before .before .before .before .before .before .before .before .before .before .before .before .before .before .before .fill-generators .ensures .1, c .before .before .before .before .before .before .before .before .before .before .before .before .before .before .before .before .fill-buses .ensures .1, c .before .before .before .before .before .before .fill-branches .ensures .1),
+    )
+
+pub fill-a-spec : {M : Type 1} → statement M
+fill-a-spec = tie.close (tie.spec (λ c κs. search needs) (λ c κs. search needs) fill-buses-requires fill-branches-requires (λ c. search needs) (λ c. search needs) (λ c. search needs) returns)

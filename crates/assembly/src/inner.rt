@@ -1,0 +1,215 @@
+// A by compressed columns: its parts one after the other, and their count.
+use crate::branches::put_flows;
+use crate::branches::put_wis;
+use crate::branches::put_wrs;
+use crate::generators::put_costs;
+use crate::generators::put_pgs;
+use crate::generators::put_qgs;
+use bus_columns::inner::put_buses;
+use cells::inner::bit_nonzero;
+use coefficients::OhmRow;
+use coefficients::inner::w_value;
+use lists::inner::store_u32;
+use numbering::SocWrLayout;
+ghost use mathlib.Core.Path.{_≡_};
+ghost use mathlib.Core.List.{_++_};
+ghost use Prim.Native.Nat.{_+_, _*_, _≤_, _<_};
+ghost use lib.ListN.{length};
+ghost use Rattle.lists.specs.UpTo.{listed, sum};
+ghost use Rattle.lists.specs.Compressed.{cellOut, joined};
+ghost use Rattle.rows.specs.Program.{matrix};
+ghost use Rattle.matrix.specs.Columns.{wCells};
+ghost use Rattle.cells.specs.Ready.{Ready, netOf};
+ghost use Rattle.cells.specs.Columns.{Columns, Whole};
+ghost use Rattle.bus_columns.specs.Buses.{busItems};
+ghost use Rattle.assembly.specs.Parts.{generatorColumns, productColumns, flowColumns, branchColumns, busCount, endCount, mostA};
+
+// The pg and qg columns.
+fn fill_generators(
+    starts: &mut [u32],
+    rows: &mut [u32],
+    vals: &mut [f64],
+    at: usize,
+    l: SocWrLayout,
+    bytes: &[u8],
+) -> usize
+    requires { ⌜ Ready l (now bytes) ⌝ }
+    requires { ⌜ at ≡ 0 ⌝ }
+    ensures { λ x. ⌜ Columns (generatorColumns (netOf l (now (bytes .entry)))) 0 (now (starts .entry)) (cellOut (now (rows .entry)) (now (vals .entry)) at) (now (starts .exit)) (cellOut (now (rows .exit)) (now (vals .exit)) x) ⌝ }
+    ensures { λ x. ⌜ x ≤ 6 * l .k + l .s ⌝ }
+{
+    let next = put_pgs(starts, rows, vals, at, l, bytes);
+    put_qgs(starts, rows, vals, next, l, bytes)
+}
+
+// The w columns.
+fn fill_buses(
+    starts: &mut [u32],
+    rows: &mut [u32],
+    vals: &mut [f64],
+    at: usize,
+    l: SocWrLayout,
+    bytes: &[u8],
+) -> usize
+    requires { ⌜ Ready l (now bytes) ⌝ }
+    requires { ⌜ (at < 900000) × (2 * l .k + l .n + 1 ≤ length (now starts)) ⌝ }
+    ensures { λ x. ⌜ Columns (listed (l .n) (wCells (netOf l (now (bytes .entry))))) (2 * l .k) (now (starts .entry)) (cellOut (now (rows .entry)) (now (vals .entry)) at) (now (starts .exit)) (cellOut (now (rows .exit)) (now (vals .exit)) x) ⌝ }
+    ensures { λ x. ⌜ x ≤ at + 4 * l .n + 8 * l .m ⌝ }
+{
+    let first = 2 * l.k + 1;
+    let end = first + l.n;
+    put_buses(&mut starts[first..end], rows, vals, at, l, bytes)
+}
+
+// The wr and wi columns.
+fn fill_products(
+    starts: &mut [u32],
+    rows: &mut [u32],
+    vals: &mut [f64],
+    at: usize,
+    l: SocWrLayout,
+    bytes: &[u8],
+) -> usize
+    requires { ⌜ Ready l (now bytes) ⌝ }
+    requires { ⌜ at < 500000 ⌝ }
+    ensures { λ x. ⌜ Columns (productColumns (netOf l (now (bytes .entry)))) (2 * l .k + l .n) (now (starts .entry)) (cellOut (now (rows .entry)) (now (vals .entry)) at) (now (starts .exit)) (cellOut (now (rows .exit)) (now (vals .exit)) x) ⌝ }
+    ensures { λ x. ⌜ x ≤ at + 14 * l .m ⌝ }
+{
+    let next = put_wrs(starts, rows, vals, at, l, bytes);
+    put_wis(starts, rows, vals, next, l, bytes)
+}
+
+// The pf, pt, qf and qt columns.
+fn fill_flows(
+    starts: &mut [u32],
+    rows: &mut [u32],
+    vals: &mut [f64],
+    at: usize,
+    l: SocWrLayout,
+    bytes: &[u8],
+) -> usize
+    requires { ⌜ Ready l (now bytes) ⌝ }
+    requires { ⌜ at < 700000 ⌝ }
+    ensures { λ x. ⌜ Columns (flowColumns (netOf l (now (bytes .entry)))) (2 * l .k + l .n + 2 * l .m) (now (starts .entry)) (cellOut (now (rows .entry)) (now (vals .entry)) at) (now (starts .exit)) (cellOut (now (rows .exit)) (now (vals .exit)) x) ⌝ }
+    ensures { λ x. ⌜ x ≤ at + 12 * l .m ⌝ }
+{
+    let pf = 2 * l.k + l.n + 2 * l.m;
+    let pt = pf + l.m;
+    let qf = pt + l.m;
+    let qt = qf + l.m;
+    let a1 = put_flows(starts, rows, vals, pf, at, l, bytes, OhmRow::Pf);
+    let a2 = put_flows(starts, rows, vals, pt, a1, l, bytes, OhmRow::Pt);
+    let a3 = put_flows(starts, rows, vals, qf, a2, l, bytes, OhmRow::Qf);
+    put_flows(starts, rows, vals, qt, a3, l, bytes, OhmRow::Qt)
+}
+
+// The columns behind the bus columns.
+fn fill_branches(
+    starts: &mut [u32],
+    rows: &mut [u32],
+    vals: &mut [f64],
+    at: usize,
+    l: SocWrLayout,
+    bytes: &[u8],
+) -> usize
+    requires { ⌜ Ready l (now bytes) ⌝ }
+    requires { ⌜ at < 300000 ⌝ }
+    ensures { λ x. ⌜ Columns (branchColumns (netOf l (now (bytes .entry)))) (2 * l .k + l .n) (now (starts .entry)) (cellOut (now (rows .entry)) (now (vals .entry)) at) (now (starts .exit)) (cellOut (now (rows .exit)) (now (vals .exit)) x) ⌝ }
+    ensures { λ x. ⌜ x ≤ at + 26 * l .m + l .s ⌝ }
+{
+    let a1 = fill_products(starts, rows, vals, at, l, bytes);
+    let a2 = fill_flows(starts, rows, vals, a1, l, bytes);
+    put_costs(starts, rows, vals, a2, l, bytes)
+}
+
+// How many cells bus i has in its own rows, and branch e at its two ends.
+fn count_bus(l: SocWrLayout, bytes: &[u8], i: usize) -> usize
+    requires { ⌜ Ready l (now bytes) ⌝ }
+    requires { ⌜ i < l .n ⌝ }
+    ensures { λ x. ⌜ x ≡ busCount l (now (bytes .entry)) i ⌝ }
+    ensures { λ x. ⌜ x ≤ 4 ⌝ }
+{
+    let gs = records::inner::gs(bytes, i);
+    let bs = records::inner::bs(bytes, i);
+    let own = bit_nonzero(-gs) + bit_nonzero(bs);
+    if records::inner::voltage_bound_active(bytes, i) {
+        return own + 2;
+    }
+    own
+}
+
+fn count_ends(l: SocWrLayout, bytes: &[u8], e: usize) -> usize
+    requires { ⌜ Ready l (now bytes) ⌝ }
+    requires { ⌜ e < l .m ⌝ }
+    ensures { λ x. ⌜ x ≡ endCount l (now (bytes .entry)) e ⌝ }
+    ensures { λ x. ⌜ x ≤ 8 ⌝ }
+{
+    let r = l.n + e;
+    let c1 = bit_nonzero(w_value(OhmRow::Pf, bytes, r));
+    let c2 = bit_nonzero(w_value(OhmRow::Qf, bytes, r));
+    let c3 = bit_nonzero(w_value(OhmRow::Pt, bytes, r));
+    let c4 = bit_nonzero(w_value(OhmRow::Qt, bytes, r));
+    c1 + c2 + c3 + c4 + 4
+}
+
+fn count_own(l: SocWrLayout, bytes: &[u8]) -> usize
+    requires { ⌜ Ready l (now bytes) ⌝ }
+    ensures { λ x. ⌜ x ≡ sum (l .n) (busCount l (now (bytes .entry))) ⌝ }
+    ensures { λ x. ⌜ x ≤ 4 * l .n ⌝ }
+{
+    let n = l.n;
+    let mut count = 0;
+    let mut i = 0;
+    while i < n {
+        count += count_bus(l, bytes, i);
+        i += 1;
+    }
+    count
+}
+
+fn count_all_ends(l: SocWrLayout, bytes: &[u8]) -> usize
+    requires { ⌜ Ready l (now bytes) ⌝ }
+    ensures { λ x. ⌜ x ≡ sum (l .m) (endCount l (now (bytes .entry))) ⌝ }
+    ensures { λ x. ⌜ x ≤ 8 * l .m ⌝ }
+{
+    let m = l.m;
+    let mut count = 0;
+    let mut e = 0;
+    while e < m {
+        count += count_ends(l, bytes, e);
+        e += 1;
+    }
+    count
+}
+
+// How many entries A has: the writers run on places that are dropped, and the cells of the buses are counted.
+pub fn count_a(l: SocWrLayout, bytes: &[u8]) -> usize
+    requires { ⌜ Ready l (now bytes) ⌝ }
+    ensures { λ x. ⌜ x ≡ length (joined (matrix (netOf l (now (bytes .entry))))) ⌝ }
+{
+    let mut s = [0u32; 1];
+    let mut r = [0u32; 1];
+    let mut v = [0.0f64; 1];
+    let a1 = fill_generators(&mut s, &mut r, &mut v, 0, l, bytes);
+    let a2 = a1 + count_own(l, bytes) + count_all_ends(l, bytes);
+    fill_branches(&mut s, &mut r, &mut v, a2, l, bytes)
+}
+
+// All of A.
+pub fn fill_a(
+    starts: &mut [u32],
+    rows: &mut [u32],
+    vals: &mut [f64],
+    l: SocWrLayout,
+    bytes: &[u8],
+) -> usize
+    requires { ⌜ Ready l (now bytes) ⌝ }
+    requires { ⌜ 2 * l .k + l .n + 1 ≤ length (now starts) ⌝ }
+    ensures { λ x. ⌜ Whole (matrix (netOf l (now (bytes .entry)))) (now (starts .entry)) (now (rows .entry)) (now (vals .entry)) (now (starts .exit)) (now (rows .exit)) (now (vals .exit)) x ⌝ }
+    ensures { λ x. ⌜ x ≤ mostA l ⌝ }
+{
+    store_u32(starts, 0, 0);
+    let a1 = fill_generators(starts, rows, vals, 0, l, bytes);
+    let a2 = fill_buses(starts, rows, vals, a1, l, bytes);
+    fill_branches(starts, rows, vals, a2, l, bytes)
+}

@@ -1,0 +1,4 @@
+// The writers of A.
+mod branches;
+mod generators;
+pub mod inner;

@@ -1,0 +1,3 @@
+pub mod Dealing
+pub mod Counts
+pub mod BusColumns

@@ -1,0 +1,3 @@
+pub mod Deal
+pub mod Buses
+pub mod Cursors

@@ -1,0 +1,2 @@
+// The bus columns of A in linear time.
+pub mod inner;

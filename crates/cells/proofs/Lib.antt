@@ -1,0 +1,3 @@
+pub mod Fills
+pub mod Ends
+pub mod Sizes

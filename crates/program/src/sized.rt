@@ -1,0 +1,67 @@
+// A into lent lists: counted before it is written, unless they hold the most entries that it can have.
+use assembly::inner::count_a;
+use assembly::inner::fill_a;
+use numbering::SocWrLayout;
+use refusals::Refusal;
+use refusals::Written;
+ghost use mathlib.Core.Path.{_≡_};
+ghost use Prim.Native.Nat.{_+_, _≤_};
+ghost use lib.ListN.{length};
+ghost use Rattle.refusals.specs.declared.Checked.the-variants.{Accepted};
+ghost use Rattle.numbering.specs.Blocks.{total};
+ghost use Rattle.numbering.specs.Layout.{layoutColumns, InRange};
+ghost use Rattle.rows.specs.Program.{matrix};
+ghost use Rattle.cells.specs.Ready.{Ready, netOf};
+ghost use Rattle.assembly.specs.Parts.{mostA};
+ghost use Rattle.program.specs.Answered.{ColumnsWritten};
+
+fn most(l: SocWrLayout) -> usize
+    requires { ⌜ InRange l ⌝ }
+    ensures { λ r. ⌜ r ≡ mostA l ⌝ }
+{
+    4 * l.n + 34 * l.m + 6 * l.k + 2 * l.s
+}
+
+fn put_counted(
+    starts: &mut [u32],
+    rows: &mut [u32],
+    values: &mut [f64],
+    l: SocWrLayout,
+    bytes: &[u8],
+) -> Written
+    requires { ⌜ Ready l (now bytes) ⌝ }
+    requires { ⌜ total (layoutColumns l) + 1 ≤ length (now starts) ⌝ }
+    ensures { λ r. ⌜ ColumnsWritten Accepted (matrix (netOf l (now (bytes .entry)))) (now (starts .entry)) (now (rows .entry)) (now (values .entry)) (now (starts .exit)) (now (rows .exit)) (now (values .exit)) r ⌝ }
+{
+    let count = count_a(l, bytes);
+    if rows.len() < count {
+        return Written::Refused(Refusal::OutputTooShort(count as u64));
+    }
+    if values.len() < count {
+        return Written::Refused(Refusal::OutputTooShort(count as u64));
+    }
+    let written = fill_a(starts, rows, values, l, bytes);
+    Written::Count(written as u64)
+}
+
+pub fn put_a(
+    starts: &mut [u32],
+    rows: &mut [u32],
+    values: &mut [f64],
+    l: SocWrLayout,
+    bytes: &[u8],
+) -> Written
+    requires { ⌜ Ready l (now bytes) ⌝ }
+    requires { ⌜ total (layoutColumns l) + 1 ≤ length (now starts) ⌝ }
+    ensures { λ r. ⌜ ColumnsWritten Accepted (matrix (netOf l (now (bytes .entry)))) (now (starts .entry)) (now (rows .entry)) (now (values .entry)) (now (starts .exit)) (now (rows .exit)) (now (values .exit)) r ⌝ }
+{
+    let most = most(l);
+    if rows.len() < most {
+        return put_counted(starts, rows, values, l, bytes);
+    }
+    if values.len() < most {
+        return put_counted(starts, rows, values, l, bytes);
+    }
+    let written = fill_a(starts, rows, values, l, bytes);
+    Written::Count(written as u64)
+}

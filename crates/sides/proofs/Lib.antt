@@ -1,0 +1,4 @@
+pub mod LastBlock
+pub mod Ratings
+pub mod RightSide
+pub mod Quad

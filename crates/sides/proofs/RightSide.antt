@@ -1,0 +1,139 @@
+-- b and q in the parts in which the code writes them. Assumes nothing.
+use Prim.Native.Nat.{ℕ, zero, suc, _+_, _*_, _<_, _≤_}
+use mathlib.Core.Path.{_≡_, refl, sym, ap, _∙_}
+use mathlib.Core.Bool.{Bool, true, false}
+use mathlib.Core.List.{List, [], _∷_, _++_, append-assoc, append-nil}
+use native.Mathlib.Nat.{mul-add, mul-one}
+use native.Mathlib.Omega.{arith}
+use lib.ListN.{length, length-append}
+use lib.Ieee.{Float, binary64, add, neg}
+use Rattle.lists.specs.UpTo.{upTo, each, listed, when, bit, sum, count}
+use Rattle.lists.proofs.Each.{each-ext, each-split}
+use Rattle.records.specs.Fields.{interceptOf}
+use Rattle.records.specs.Network.{segmentRecord}
+use Rattle.numbering.specs.Blocks.{total}
+use Rattle.numbering.specs.Layout.{layoutRows, layoutColumns}
+use Rattle.numbering.specs.Numbering.{nvar, ncon}
+use Rattle.numbering.specs.declared.SocWrLayout.{SocWrLayout}
+use Rattle.numbering.specs.declared.RowName.the-variants.{Segment, Jabr, Thermal}
+use Rattle.rows.specs.Ops.{rounded}
+use Rattle.rows.specs.Rows.{b, zero64}
+use Rattle.rows.specs.Program.{linear}
+use Rattle.matrix.specs.Lists.{rightSide}
+use Rattle.matrix.proofs.EveryPoint.{right-side, linear-side}
+use Rattle.cells.proofs.Fills.{listed-length}
+use Rattle.cells.proofs.Sizes.{columns-length}
+use Rattle.cells.specs.Ready.{Ready, netOf}
+use Rattle.sides.specs.Sides.{sideAt, equalitySides, voltageSides, generatorSides, ratingSides, ratingsAt, otherSides, linearCost}
+
+sum-same : (w n : ℕ) → sum n (λ i. w) ≡ w * n
+unfolding upTo
+sum-same w zero = omega arith
+sum-same w (suc n) = let e : suc n ≡ n + 1 = omega arith in rw (sum-same w n, e, mul-add w n 1, mul-one w)
+
+module _ {A : Type 0} where
+  -- groups that follow each other, numbered through
+  each-sums : (c : ℕ → ℕ) (h : ℕ → List A) (n : ℕ) → each (sum n c) h ≡ each n (λ i. each (c i) (λ t. h (sum i c + t)))
+  unfolding upTo
+  each-sums c h zero = refl
+  each-sums c h (suc n) = each-split h (sum n c) (c n) ∙ rw (each-sums c h n)
+
+  -- w of the same in each of n
+  each-same : (w n : ℕ) (x : A) → each n (λ i. each w (λ q. x ∷ [])) ≡ listed (w * n) (λ i. x)
+  each-same w n x = sym (each-sums (λ i. w) (λ i. x ∷ []) n) ∙ ap (λ (k : ℕ). listed k (λ i. x)) (sum-same w n)
+
+  four-blocks : (m : ℕ) (x : A) → listed m (λ e. x) ++ listed m (λ e. x) ++ listed m (λ e. x) ++ listed m (λ e. x) ≡ listed (4 * m) (λ e. x)
+  four-blocks m x =
+      let e : 4 * m ≡ m + m + m + m = omega arith in
+      rw (e, each-split (λ i. x ∷ []) (m + m + m) m, each-split (λ i. x ∷ []) (m + m) m, each-split (λ i. x ∷ []) m m)
+
+  regroup : (p q a b c d z u v f g h i r s t j k : List A) → a ++ b ++ c ++ d ≡ z
+      → (p ++ q ++ a ++ b ++ c ++ d) ++ (u ++ v ++ f ++ g ++ h ++ i ++ r ++ s ++ t) ++ (j ++ k) ≡ (p ++ q ++ z) ++ (u ++ v) ++ (f ++ g ++ h ++ i) ++ (r ++ s ++ t ++ j ++ k)
+  regroup p q a b c d z u v f g h i r s t j k e = rw (← e) (simp append-assoc)
+
+bit-when : {A : Type 0} (p : Bool) (x : A) → each (bit p) (λ t. x ∷ []) ≡ when p (x ∷ [])
+unfolding upTo
+bit-when true x = refl
+bit-when false x = refl
+
+-- one for each that passes
+ones : {A : Type 0} (n : ℕ) (p : ℕ → Bool) (x : A) → each n (λ i. when (p i) (x ∷ [])) ≡ listed (count n p) (λ i. x)
+ones n p x = each-ext _ _ n (λ i l. sym (bit-when (p i) x)) ∙ sym (each-sums (λ i. bit (p i)) (λ i. x ∷ []) n)
+
+eight-blocks : {A : Type 0} (k n m : ℕ) (x : A) (a c : List A)
+    → a ++ listed k (λ e. x) ++ listed n (λ e. x) ++ listed m (λ e. x) ++ listed m (λ e. x) ++ listed m (λ e. x) ++ listed m (λ e. x) ++ listed m (λ e. x) ++ listed m (λ e. x) ++ c
+    ≡ a ++ listed (k + n + 6 * m) (λ e. x) ++ c
+eight-blocks k n m x a c =
+    let f : ℕ → List _ = λ i. x ∷ [] in
+    let e : k + n + 6 * m ≡ k + n + m + m + m + m + m + m = omega arith in
+    rw (
+      e,
+      each-split f (k + n + m + m + m + m + m) m,
+      each-split f (k + n + m + m + m + m) m,
+      each-split f (k + n + m + m + m) m,
+      each-split f (k + n + m + m) m,
+      each-split f (k + n + m) m,
+      each-split f (k + n) m,
+      each-split f k n,
+    )
+    (simp append-assoc)
+
+module _ (l : SocWrLayout) (bytes : List ℕ) (ready : Ready l bytes) where
+  -- q
+  pub linear-length : length (linear (netOf l bytes)) ≡ total (layoutColumns l)
+  unfolding linear
+  linear-length = listed-length _ _ ∙ sym (columns-length l bytes ready)
+
+  pub linear-parts : linear (netOf l bytes)
+      ≡ listed (l .k) (linearCost l bytes) ++ listed (l .k + l .n + 6 * l .m) (λ c. zero64) ++ listed (l .«cost_columns») (λ c. add binary64 zero64 (rounded .one))
+  unfolding linearCost
+  linear-parts =
+      linear-side (netOf l bytes)
+      ∙ rw (ones (l .k) (netOf l bytes .piecewise) (add binary64 zero64 (rounded .one)), ← ready .curves-are)
+      (eight-blocks (l .k) (l .n) (l .m) zero64 (listed (l .k) (linearCost l bytes)) (listed (l .«cost_columns») (λ c. add binary64 zero64 (rounded .one))))
+
+  intercepts : each (l .k) (λ g. each (netOf l bytes .segments g) (λ t. b (netOf l bytes) (Segment g t) ∷ [])) ≡ listed (l .s) (λ r. neg (interceptOf bytes (l .n + l .m + l .k + r)))
+  unfolding b segmentRecord
+  intercepts =
+      each-ext _ (λ g. each (netOf l bytes .segments g) (λ t. h (sum g (netOf l bytes .segments) + t))) (l .k)
+      (λ g m. each-ext _ (λ t. h (sum g (netOf l bytes .segments) + t)) (netOf l bytes .segments g)
+      (λ t o.
+      let e : l .n + l .m + l .k + sum g (netOf l bytes .segments) + t ≡ l .n + l .m + l .k + (sum g (netOf l bytes .segments) + t) = omega arith in
+      ap (λ (r : ℕ). neg (interceptOf bytes r) ∷ []) e))
+      ∙ sym (each-sums (netOf l bytes .segments) h (l .k))
+      ∙ ap (λ (n : ℕ). each n h) (ready .accepted .counts-add)
+    where
+      h : ℕ → List Float
+      h r = neg (interceptOf bytes (l .n + l .m + l .k + r)) ∷ []
+
+  pub equalities-length : length (equalitySides l bytes) ≡ 2 * l .n + 4 * l .m
+  unfolding equalitySides
+  equalities-length = simp (length-append, listed-length) (omega arith)
+
+  pub voltages-length : length (voltageSides l bytes) ≡ 2 * l .n
+  unfolding voltageSides
+  voltages-length = simp (length-append, listed-length) (omega arith)
+
+  pub generators-length : length (generatorSides l bytes) ≡ 4 * l .k
+  unfolding generatorSides
+  generators-length = simp (length-append, listed-length) (omega arith)
+
+  -- as many as the layout says
+  pub rows-length : total (layoutRows l) ≡ ncon (netOf l bytes)
+  rows-length = omega (arith, ready .limits-are, ready .accepted .counts-add)
+
+  pub right-length : length (rightSide (netOf l bytes)) ≡ total (layoutRows l)
+  unfolding rightSide
+  right-length = listed-length _ _ ∙ sym rows-length
+
+  -- b
+  pub right-parts : rightSide (netOf l bytes) ≡ equalitySides l bytes ++ voltageSides l bytes ++ generatorSides l bytes ++ otherSides l bytes
+  unfolding equalitySides voltageSides generatorSides otherSides sideAt b upTo ratingsAt ratingSides
+  right-parts =
+      right-side (netOf l bytes)
+      ∙ rw (intercepts, each-same 4 (l .m) zero64)
+      (regroup (f 0 (l .n)) (f 1 (l .n)) (f 2 (l .m)) (f 3 (l .m)) (f 4 (l .m)) (f 5 (l .m)) (listed (4 * l .m) (λ e. zero64)) (f 6 (l .n)) (f 7 (l .n)) (f 8 (l .k)) (f 9 (l .k)) (f 10 (l .k)) (f 11 (l .k)) (f 12 (l .m)) (f 13 (l .m))
+      (listed (l .s) (λ r. neg (interceptOf bytes (l .n + l .m + l .k + r)))) (listed (4 * l .m) (λ e. zero64)) (each (l .m) (ratingsAt l bytes)) (four-blocks (l .m) zero64))
+    where
+      f : ℕ → ℕ → List Float
+      f p n = listed n (sideAt l bytes p)

@@ -1,0 +1,38 @@
+-- `sides::inner::fill_costs` meets its contract. Assumes nothing.
+use borrow.Author.Needs.{needs}
+use Prim.Native.Nat.{_≤_, _-_}
+use mathlib.Core.Path.{_≡_, refl, ap}
+use native.Mathlib.Omega.{arith}
+use Rattle.lists.specs.UpTo.{listed}
+use Rattle.cells.specs.Filled.{Filled}
+use Rattle.cells.proofs.Fills.{filled-none, filled-more, kept-length, filled-all}
+use Rattle.sides.specs.Sides.{linearCost}
+use lib.Ieee.{binary64, add}
+use Rattle.rows.specs.Rows.{zero64}
+use Rattle.sides.proofs.inner.fill_costs.Statement.{statement}
+use Rattle.sides.proofs.inner.fill_costs.Tie as tie
+
+abbrev Inv-loop : tie.InvT-loop
+Inv-loop out₀ l bytes k g₀ out g = (g ≤ k) × (k ≡ l .k) × Filled (listed g (linearCost l bytes)) out₀ 0 out
+
+abbrev μ-loop : tie.MeasureT-loop
+μ-loop out₀ l bytes k g₀ out g = k - g
+
+loop-holds : tie.Need-loop-holds Inv-loop μ-loop
+loop-holds c = (omega arith, refl, filled-none _)
+
+slice-write-out : tie.Need-slice-write-out Inv-loop μ-loop
+slice-write-out c = omega (arith, kept-length (c .before .before .before .loop .inv .2))
+
+loop-again : tie.Need-loop-again Inv-loop μ-loop
+unfolding linearCost
+loop-again c = (omega arith, c .before .before .before .loop .inv .1, filled-more _ (c .before .before .before .loop .inv .2) (ap (add binary64 zero64) (c .cl .ensures)))
+
+same-length : tie.Need-same-length Inv-loop μ-loop
+same-length c = kept-length (c .before .loop .inv .2)
+
+returns : tie.Need-returns Inv-loop μ-loop
+returns c = filled-all _ (omega arith) (c .before .loop .inv .2)
+
+pub fill-costs-spec : {M : Type 1} → statement M
+fill-costs-spec = tie.close (tie.spec Inv-loop μ-loop loop-holds (λ c. search needs) (λ c. search needs) (λ c κs. search needs) (λ c. search needs) (λ c. search needs) slice-write-out (λ c. search needs) (λ c. search needs) loop-again same-length returns)

@@ -1,0 +1,291 @@
+// q and b: lists of floats.
+use branch::inner::conic_angle_bound_active;
+use numbering::SocWrLayout;
+ghost use mathlib.Core.Path.{_≡_};
+ghost use mathlib.Core.Bool.{cond};
+ghost use mathlib.Core.List.{_++_};
+ghost use Prim.Native.Nat.{_+_, _*_, _≤_, _<_};
+ghost use lib.ListN.{length};
+ghost use lib.Ieee.{binary64, neg, add};
+ghost use Rattle.lists.specs.UpTo.{each, listed, when, overlay, bit};
+ghost use Rattle.records.specs.Fields.{interceptOf, clOf};
+ghost use Rattle.numbering.specs.Blocks.{total};
+ghost use Rattle.numbering.specs.Layout.{layoutColumns, layoutRows};
+ghost use Rattle.rows.specs.Ops.{rounded};
+ghost use Rattle.rows.specs.Rows.{zero64};
+ghost use Rattle.rows.specs.Program.{linear};
+ghost use Rattle.matrix.specs.Lists.{rightSide};
+ghost use Rattle.cells.specs.Ready.{Ready, netOf};
+ghost use Rattle.cells.specs.Filled.{Filled};
+ghost use Rattle.sides.specs.Sides.{BusBlock, GenBlock, AngleBlock, sideAt, equalitySides, voltageSides, generatorSides, ratingSides, ratingsAt, otherSides, linearCost};
+
+pub mod quadratic;
+
+// The value where a bound is active, else 1.
+fn active(on: bool, v: f64) -> f64
+    ensures { λ r. ⌜ r ≡ cond on v (rounded .one) ⌝ }
+{
+    if on {
+        return v;
+    }
+    1.0
+}
+
+// The right side of bus i in block pbal, qbal, wub or wlb.
+fn bus_rhs(l: SocWrLayout, bytes: &[u8], block: usize, i: usize) -> f64
+    requires { ⌜ Ready l (now bytes) ⌝ }
+    requires { ⌜ BusBlock block ⌝ }
+    requires { ⌜ i < l .n ⌝ }
+    ensures { λ r. ⌜ r ≡ sideAt l (now (bytes .entry)) block i ⌝ }
+{
+    if block == 0 {
+        return records::inner::pd(bytes, i);
+    }
+    if block == 1 {
+        return records::inner::qd(bytes, i);
+    }
+    let on = records::inner::voltage_bound_active(bytes, i);
+    if block == 6 {
+        let v = records::inner::vm_max(bytes, i);
+        return active(on, v * v);
+    }
+    let v = records::inner::vm_min(bytes, i);
+    active(on, -v * v)
+}
+
+// The right side of generator g in block pgub, pglb, qgub or qglb.
+fn gen_rhs(l: SocWrLayout, bytes: &[u8], block: usize, g: usize) -> f64
+    requires { ⌜ Ready l (now bytes) ⌝ }
+    requires { ⌜ GenBlock block ⌝ }
+    requires { ⌜ g < l .k ⌝ }
+    ensures { λ r. ⌜ r ≡ sideAt l (now (bytes .entry)) block g ⌝ }
+{
+    let r = l.n + l.m + g;
+    let on = records::inner::generator_capability_active(bytes, r);
+    if block == 8 {
+        return active(on, records::inner::pmax(bytes, r));
+    }
+    if block == 9 {
+        return active(on, -records::inner::pmin(bytes, r));
+    }
+    if block == 10 {
+        return active(on, records::inner::qmax(bytes, r));
+    }
+    active(on, -records::inner::qmin(bytes, r))
+}
+
+// The right side of branch e in block angub or anglb.
+fn angle_rhs(l: SocWrLayout, bytes: &[u8], block: usize, e: usize) -> f64
+    requires { ⌜ Ready l (now bytes) ⌝ }
+    requires { ⌜ AngleBlock block ⌝ }
+    requires { ⌜ e < l .m ⌝ }
+    ensures { λ r. ⌜ r ≡ sideAt l (now (bytes .entry)) block e ⌝ }
+{
+    active(conic_angle_bound_active(bytes, l.n + e), 0.0)
+}
+
+fn fill_buses(out: &mut [f64], at: usize, l: SocWrLayout, bytes: &[u8], block: usize)
+    requires { ⌜ Ready l (now bytes) ⌝ }
+    requires { ⌜ BusBlock block ⌝ }
+    requires { ⌜ at + l .n ≤ length (now out) ⌝ }
+    ensures { λ _. ⌜ Filled (listed (l .n) (sideAt l (now (bytes .entry)) block)) (now (out .entry)) at (now (out .exit)) ⌝ }
+{
+    let n = l.n;
+    let mut i = 0;
+    while i < n {
+        out[at + i] = bus_rhs(l, bytes, block, i);
+        i += 1;
+    }
+}
+
+fn fill_gens(out: &mut [f64], at: usize, l: SocWrLayout, bytes: &[u8], block: usize)
+    requires { ⌜ Ready l (now bytes) ⌝ }
+    requires { ⌜ GenBlock block ⌝ }
+    requires { ⌜ at + l .k ≤ length (now out) ⌝ }
+    ensures { λ _. ⌜ Filled (listed (l .k) (sideAt l (now (bytes .entry)) block)) (now (out .entry)) at (now (out .exit)) ⌝ }
+{
+    let k = l.k;
+    let mut g = 0;
+    while g < k {
+        out[at + g] = gen_rhs(l, bytes, block, g);
+        g += 1;
+    }
+}
+
+fn fill_angles(out: &mut [f64], at: usize, l: SocWrLayout, bytes: &[u8], block: usize)
+    requires { ⌜ Ready l (now bytes) ⌝ }
+    requires { ⌜ AngleBlock block ⌝ }
+    requires { ⌜ at + l .m ≤ length (now out) ⌝ }
+    ensures { λ _. ⌜ Filled (listed (l .m) (sideAt l (now (bytes .entry)) block)) (now (out .entry)) at (now (out .exit)) ⌝ }
+{
+    let m = l.m;
+    let mut e = 0;
+    while e < m {
+        out[at + e] = angle_rhs(l, bytes, block, e);
+        e += 1;
+    }
+}
+
+fn fill_all(out: &mut [f64], at: usize, count: usize, v: f64)
+    requires { ⌜ at + count ≤ length (now out) ⌝ }
+    ensures { λ _. ⌜ Filled (listed count (λ j. v)) (now (out .entry)) at (now (out .exit)) ⌝ }
+{
+    let mut i = 0;
+    while i < count {
+        out[at + i] = v;
+        i += 1;
+    }
+}
+
+// The negated intercepts of the segments, from the first one's record on.
+fn fill_intercepts(out: &mut [f64], at: usize, bytes: &[u8], first: usize, count: usize)
+    requires { ⌜ 128 * (first + count) ≤ length (now bytes) ⌝ }
+    requires { ⌜ at + count ≤ length (now out) ⌝ }
+    ensures { λ _. ⌜ Filled (listed count (λ r. neg (interceptOf (now (bytes .entry)) (first + r)))) (now (out .entry)) at (now (out .exit)) ⌝ }
+{
+    let mut i = 0;
+    while i < count {
+        out[at + i] = -records::inner::intercept(bytes, first + i);
+        i += 1;
+    }
+}
+
+fn put_six(out: &mut [f64], at: usize, v: f64)
+    requires { ⌜ at + 6 ≤ length (now out) ⌝ }
+    ensures { λ _. ⌜ Filled (ratingSides v) (now (out .entry)) at (now (out .exit)) ⌝ }
+{
+    out[at] = v;
+    out[at + 1] = 0.0;
+    out[at + 2] = 0.0;
+    out[at + 3] = v;
+    out[at + 4] = 0.0;
+    out[at + 5] = 0.0;
+}
+
+// The six right sides of a branch, if it is limited.
+fn put_rating(out: &mut [f64], at: usize, on: bool, v: f64) -> usize
+    requires { ⌜ at + length (when on (ratingSides v)) ≤ length (now out) ⌝ }
+    ensures { λ r. ⌜ Filled (when on (ratingSides v)) (now (out .entry)) at (now (out .exit)) ⌝ }
+    ensures { λ r. ⌜ r ≡ at + length (when on (ratingSides v)) ⌝ }
+{
+    if on {
+        put_six(out, at, v);
+        return at + 6;
+    }
+    at
+}
+
+fn fill_ratings(out: &mut [f64], at: usize, l: SocWrLayout, bytes: &[u8])
+    requires { ⌜ Ready l (now bytes) ⌝ }
+    requires { ⌜ at + 6 * l .t ≤ length (now out) ⌝ }
+    ensures { λ _. ⌜ Filled (each (l .m) (ratingsAt l (now (bytes .entry)))) (now (out .entry)) at (now (out .exit)) ⌝ }
+{
+    let m = l.m;
+    let mut next = at;
+    let mut e = 0;
+    while e < m {
+        let r = l.n + e;
+        let on = records::inner::thermal_limit_active(bytes, r);
+        let rate_a = records::inner::rate_a(bytes, r);
+        next = put_rating(out, next, on, rate_a);
+        e += 1;
+    }
+}
+
+// pbal, qbal and the Ohm rows.
+fn fill_equalities(out: &mut [f64], l: SocWrLayout, bytes: &[u8])
+    requires { ⌜ Ready l (now bytes) ⌝ }
+    requires { ⌜ 2 * l .n + 4 * l .m ≤ length (now out) ⌝ }
+    ensures { λ _. ⌜ Filled (equalitySides l (now (bytes .entry))) (now (out .entry)) 0 (now (out .exit)) ⌝ }
+{
+    let ohm = 2 * l.n;
+    let zeros = 4 * l.m;
+    fill_buses(out, 0, l, bytes, 0);
+    fill_buses(out, l.n, l, bytes, 1);
+    fill_all(out, ohm, zeros, 0.0);
+}
+
+fn fill_voltages(out: &mut [f64], at: usize, l: SocWrLayout, bytes: &[u8])
+    requires { ⌜ Ready l (now bytes) ⌝ }
+    requires { ⌜ at + 2 * l .n ≤ length (now out) ⌝ }
+    ensures { λ _. ⌜ Filled (voltageSides l (now (bytes .entry))) (now (out .entry)) at (now (out .exit)) ⌝ }
+{
+    let lower = at + l.n;
+    fill_buses(out, at, l, bytes, 6);
+    fill_buses(out, lower, l, bytes, 7);
+}
+
+fn fill_capabilities(out: &mut [f64], at: usize, l: SocWrLayout, bytes: &[u8])
+    requires { ⌜ Ready l (now bytes) ⌝ }
+    requires { ⌜ at + 4 * l .k ≤ length (now out) ⌝ }
+    ensures { λ _. ⌜ Filled (generatorSides l (now (bytes .entry))) (now (out .entry)) at (now (out .exit)) ⌝ }
+{
+    let a1 = at + l.k;
+    let a2 = a1 + l.k;
+    let a3 = a2 + l.k;
+    fill_gens(out, at, l, bytes, 8);
+    fill_gens(out, a1, l, bytes, 9);
+    fill_gens(out, a2, l, bytes, 10);
+    fill_gens(out, a3, l, bytes, 11);
+}
+
+// The angle, cost, jabr and thermal rows.
+fn fill_others(out: &mut [f64], at: usize, l: SocWrLayout, bytes: &[u8])
+    requires { ⌜ Ready l (now bytes) ⌝ }
+    requires { ⌜ at + 6 * l .m + l .s + 6 * l .t ≤ length (now out) ⌝ }
+    ensures { λ _. ⌜ Filled (otherSides l (now (bytes .entry))) (now (out .entry)) at (now (out .exit)) ⌝ }
+{
+    let first = l.n + l.m + l.k;
+    let a1 = at + l.m;
+    let a2 = a1 + l.m;
+    let a3 = a2 + l.s;
+    let zeros = 4 * l.m;
+    let a4 = a3 + zeros;
+    fill_angles(out, at, l, bytes, 12);
+    fill_angles(out, a1, l, bytes, 13);
+    fill_intercepts(out, a2, bytes, first, l.s);
+    fill_all(out, a3, zeros, 0.0);
+    fill_ratings(out, a4, l, bytes);
+}
+
+// All of b.
+pub fn fill_b(out: &mut [f64], l: SocWrLayout, bytes: &[u8])
+    requires { ⌜ Ready l (now bytes) ⌝ }
+    requires { ⌜ total (layoutRows l) ≤ length (now out) ⌝ }
+    ensures { λ _. ⌜ now (out .exit) ≡ overlay (rightSide (netOf l (now (bytes .entry)))) (now (out .entry)) ⌝ }
+{
+    let voltage = 2 * l.n + 4 * l.m;
+    let capability = voltage + 2 * l.n;
+    let angle = capability + 4 * l.k;
+    fill_equalities(out, l, bytes);
+    fill_voltages(out, voltage, l, bytes);
+    fill_capabilities(out, capability, l, bytes);
+    fill_others(out, angle, l, bytes);
+}
+
+// 0 with the linear cost added, at each pg.
+fn fill_costs(out: &mut [f64], l: SocWrLayout, bytes: &[u8])
+    requires { ⌜ Ready l (now bytes) ⌝ }
+    requires { ⌜ l .k ≤ length (now out) ⌝ }
+    ensures { λ _. ⌜ Filled (listed (l .k) (linearCost l (now (bytes .entry)))) (now (out .entry)) 0 (now (out .exit)) ⌝ }
+{
+    let k = l.k;
+    let mut g = 0;
+    while g < k {
+        out[0 + g] = 0.0 + records::inner::cl(bytes, l.n + l.m + g);
+        g += 1;
+    }
+}
+
+// All of q.
+pub fn fill_q(out: &mut [f64], l: SocWrLayout, bytes: &[u8])
+    requires { ⌜ Ready l (now bytes) ⌝ }
+    requires { ⌜ total (layoutColumns l) ≤ length (now out) ⌝ }
+    ensures { λ _. ⌜ now (out .exit) ≡ overlay (linear (netOf l (now (bytes .entry)))) (now (out .entry)) ⌝ }
+{
+    let zeros = l.k + l.n + 6 * l.m;
+    let curves = l.k + zeros;
+    fill_costs(out, l, bytes);
+    fill_all(out, l.k, zeros, 0.0);
+    fill_all(out, curves, l.cost_columns, 0.0 + 1.0);
+}

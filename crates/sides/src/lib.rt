@@ -1,0 +1,2 @@
+// The writers of P, q and b.
+pub mod inner;
