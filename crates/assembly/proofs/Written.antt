@@ -21,12 +21,13 @@ use Rattle.numbering.specs.declared.SocWrLayout.{SocWrLayout}
 use Rattle.numbering.specs.declared.RowName.the-variants.{Segment, Thermal}
 use Rattle.rows.specs.Rows.{wr, wi, minusOne, constant64}
 use Rattle.matrix.specs.Columns.{ohmValue, nonzeroCell, oneCell, slopeCell, costCell, costCells, ohmCells}
-use Rattle.coefficients.specs.declared.Series.{Series}
+use Rattle.branch.specs.Series.{seriesOf}
+use Rattle.branch.specs.declared.Series.{Series}
 use Rattle.coefficients.specs.declared.Products.{Products}
 use Rattle.cells.specs.Ready.{Ready, netOf}
 use Rattle.cells.specs.Columns.{Columns}
 use Rattle.cells.proofs.Ends.{columns-turn}
-use Rattle.coefficients.specs.Series.{seriesOf, branchFrom, productsOf}
+use Rattle.coefficients.specs.Series.{branchFrom, productsOf}
 use Rattle.assembly.specs.Writers.{slopes, ones, products, costTurn}
 
 one-or-none : {A : Type 0} (b : Bool) (x : A) → length (when b (x ∷ [])) ≡ bit b

@@ -1,5 +1,7 @@
 // The branch columns of A.
 use crate::generators::put_bounds;
+use branch::inner::conic_angle_bound_active;
+use branch::inner::series;
 use bus_columns::inner::end_bus;
 use bus_columns::inner::ohm_row;
 use cells::inner::put;
@@ -7,8 +9,6 @@ use cells::inner::put_if;
 use cells::inner::put_nonzero;
 use coefficients::OhmRow;
 use coefficients::Products;
-use coefficients::inner::conic_angle_bound_active;
-use coefficients::inner::series;
 use coefficients::inner::wi_products;
 use coefficients::inner::wr_products;
 use lists::inner::store_u32;

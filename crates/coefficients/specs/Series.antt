@@ -1,19 +1,15 @@
--- Document 01: "Per branch, the products of tap are gathered in a struct of five floats: g, b, tr, ti, tm2".
+-- The coefficients of the Ohm rows, from the struct of five floats.
 use lib.Ieee.{Float}
 use Rattle.records.specs.AcNetwork.{Branch}
 use Rattle.rows.specs.Rows.{zero64, OhmRow, pf, qf, pt, qt, OhmPlace}
 use Rattle.rows.specs.Rows as Rows
 use Rattle.matrix.specs.Columns.{ohmValue}
-use Rattle.coefficients.specs.declared.Series.{Series}
+use Rattle.branch.specs.declared.Series.{Series}
 use Rattle.coefficients.specs.declared.Products.{Products}
 use Rattle.coefficients.specs.declared.OhmRow.{OhmRow as Row}
 use Rattle.coefficients.specs.declared.OhmRow.the-variants as Row
 
--- the five floats of a branch
-abbrev pub seriesOf : Branch Float → Series
-seriesOf t = record { g = t .g; b = t .b; tr = t .tr; ti = t .ti; tm2 = t .tm2 }
-
--- a branch with these and no shunts: the coefficients of wr and wi use no others
+-- a branch with these five floats and no shunts: the coefficients of wr and wi use no others
 abbrev pub branchFrom : Series → Branch Float
 branchFrom x = record { g = x .g; b = x .b; gfr = zero64; bfr = zero64; gto = zero64; bto = zero64; tr = x .tr; ti = x .ti; tm2 = x .tm2 }
 

@@ -1,8 +1,7 @@
 // The columns of the KKT system by parameter.
 use inner::column::column_of;
 use interface::Parameter;
-use numbering::inner::layout;
-use records::check_records;
+use numbering::layout::check_layout;
 use refusals::Written;
 use refusals::is_refused;
 use refusals::written_if;
@@ -30,10 +29,11 @@ pub fn parameter_jacobian(
     ensures { λ r. ⌜ r ≡ writtenIf (jacobianCheck n m k s (now (bytes .entry)) parameter index (length (now (x .entry))) (length (now (z .entry))) (length (now (column .entry)))) (dim (networkOf n m k s (now (bytes .entry)))) ⌝ }
     ensures { λ _. ⌜ now (column .exit) ≡ leftIn (jacobianCheck n m k s (now (bytes .entry)) parameter index (length (now (x .entry))) (length (now (z .entry))) (length (now (column .entry)))) (jacobian (networkOf n m k s (now (bytes .entry))) (now (x .entry)) (now (z .entry)) parameter index) (now (column .entry)) ⌝ }
 {
-    let check = check_records(n, m, k, s, bytes);
+    let checked = check_layout(n, m, k, s, bytes, index);
+    let check = checked.check;
     if is_refused(check) {
         return written_if(check, 0);
     }
-    let l = layout(n, m, k, s, bytes);
-    column_of(l, bytes, x, z, parameter, index, column)
+    let l = checked.layout;
+    column_of(l, bytes, x, z, parameter, index, checked.before, column)
 }

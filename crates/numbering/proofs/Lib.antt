@@ -8,3 +8,4 @@ pub mod Standing
 pub mod Answers
 pub mod ConeLengths
 pub mod Theorem
+pub mod OnePass

@@ -1,10 +1,12 @@
 -- What the entries of the numbering answer.
-use Prim.Native.Nat.{ℕ, _+_, _*_}
+use Prim.Native.Nat.{ℕ, _+_, _*_, min}
+use mathlib.Core.Path.{_≡_}
 use mathlib.Core.Bool.{Bool, true, false, cond}
 use mathlib.Core.List.{List, [], _∷_, _++_}
 use lib.Dec.{eqb, ltb}
 use lib.ListN.{length, replicate}
 use lib.Ieee.{Float}
+use Rattle.lists.specs.UpTo.{count}
 use Rattle.refusals.specs.Refusals.{_orElse_, refuseUnless, roomFor, numberOf as causeNumber, valueOf as causeValue}
 use Rattle.refusals.specs.declared.Checked.{Checked}
 use Rattle.refusals.specs.declared.Checked.the-variants.{Accepted, Refused}
@@ -13,8 +15,9 @@ use Rattle.refusals.specs.declared.Refusal.the-variants.{PastEnd}
 use Rattle.records.specs.AcNetwork.{AcNetwork}
 use Rattle.records.specs.Network.{networkOf}
 use Rattle.records.specs.Check.{checkOf}
+use Rattle.records.specs.Counts.{ifAccepted}
 use Rattle.numbering.specs.Blocks.{Block, records, points, blockAt, before, total, numberOf}
-use Rattle.numbering.specs.Numbering.{columnKey, columnBlocks, columnAt, nvar, rowKey, rowBlocks, rowAt, ncon}
+use Rattle.numbering.specs.Numbering.{limits, curves, columnKey, columnBlocks, columnAt, nvar, rowKey, rowBlocks, rowAt, ncon}
 use Rattle.numbering.specs.Layout.{layoutOf, layoutCause, layoutColumns, layoutRows, nEqOf, nIneqOf}
 use Rattle.numbering.specs.declared.Key.{Key}
 use Rattle.numbering.specs.declared.ColumnName.{ColumnName}
@@ -22,6 +25,7 @@ use Rattle.numbering.specs.declared.RowName.{RowName}
 use Rattle.numbering.specs.declared.SocWrLayout.{SocWrLayout}
 use Rattle.numbering.specs.declared.Lookup.{Lookup}
 use Rattle.numbering.specs.declared.Lookup.the-variants as Lookup
+use Rattle.numbering.specs.declared.CheckedLayout.{CheckedLayout}
 use Rattle.numbering.specs.declared.LayoutAnswer.{LayoutAnswer}
 use Rattle.numbering.specs.declared.LayoutAnswer.the-variants as LayoutAnswer
 use Rattle.numbering.specs.declared.ColumnAnswer.{ColumnAnswer}
@@ -143,6 +147,16 @@ layoutAnswer (Refused cause) l = LayoutAnswer.Refused cause
 
 abbrev pub newLayout : ℕ → ℕ → ℕ → ℕ → List ℕ → LayoutAnswer
 newLayout n m k s b = layoutAnswer (checkOf n m k s b) (layoutOf (networkOf n m k s b))
+
+-- a layout where the check passed, and else its counts alone
+abbrev pub layoutIf : {A : Type 0} → Checked → AcNetwork A → SocWrLayout
+layoutIf c G = record { n = G .n; m = G .m; k = G .k; s = G .s; t = ifAccepted c (limits G); «cost_columns» = ifAccepted c (curves G) }
+
+-- the check, the layout, and how many limited branches come before branch e, or are there where e is past the last
+pub record LaidOut (n m k s : ℕ) (b : List ℕ) (e : ℕ) (r : CheckedLayout) : Type 0 where
+  pub check : r .check ≡ checkOf n m k s b
+  pub layout : r .layout ≡ layoutIf (checkOf n m k s b) (networkOf n m k s b)
+  pub before : r .before ≡ ifAccepted (checkOf n m k s b) (count (min e m) (networkOf n m k s b .limited))
 
 -- ---- `cones`: the lengths "in this order to a lent u32 slice"
 abbrev pub conesOf : SocWrLayout → List ℕ

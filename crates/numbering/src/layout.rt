@@ -1,4 +1,5 @@
 // The layout's methods: each tests the layout handed in, and then the index.
+use crate::CheckedLayout;
 use crate::LayoutAnswer;
 use crate::Lookup;
 use crate::SocWrLayout;
@@ -13,7 +14,7 @@ ghost use mathlib.Core.Path.{_≡_};
 ghost use Prim.Native.Nat.{_<_};
 ghost use Rattle.numbering.specs.Blocks.{key, before, total};
 ghost use Rattle.numbering.specs.Layout.{countedOf, layoutCause, layoutColumns, layoutRows, nEqOf, nIneqOf};
-ghost use Rattle.numbering.specs.Lookups.{afterCheck, inLayout, columnIn, rowIn, sizeIn, layoutAnswer, newLayout};
+ghost use Rattle.numbering.specs.Lookups.{afterCheck, inLayout, columnIn, rowIn, sizeIn, layoutAnswer, newLayout, LaidOut};
 ghost use Rattle.numbering.specs.declared.Lookup.the-variants.{Absent};
 ghost use Rattle.numbering.specs.declared.ColumnName.the-variants.{Pg, Qg, W, Wr, Wi, Pf, Pt, Qf, Qt};
 ghost use Rattle.numbering.specs.declared.RowName.the-variants.{Pbal, Qbal, OhmPf, OhmQf, OhmPt, OhmQt, Wub, Wlb, Pgub, Pglb, Qgub, Qglb, Angub, Anglb, Jabr};
@@ -34,6 +35,27 @@ fn no_layout(check: Checked) -> LayoutAnswer
     match check {
         Checked::Accepted => LayoutAnswer::Layout(inner::counted(0, 0, 0, 0)),
         Checked::Refused(cause) => LayoutAnswer::Refused(cause),
+    }
+}
+
+// The record check and the layout by one pass over the records, with the limited branches before branch e.
+pub fn check_layout(n: usize, m: usize, k: usize, s: usize, bytes: &[u8], e: usize) -> CheckedLayout
+    ensures { λ r. ⌜ LaidOut n m k s (now (bytes .entry)) e r ⌝ }
+{
+    let counted = records::check_counting(n, m, k, s, bytes, e);
+    let check = counted.check;
+    let layout = SocWrLayout {
+        n,
+        m,
+        k,
+        s,
+        t: counted.t,
+        cost_columns: counted.cost_columns,
+    };
+    CheckedLayout {
+        check,
+        layout,
+        before: counted.before,
     }
 }
 

@@ -1,4 +1,5 @@
 // Numbering of the rows and columns of the SOCWR program.
+use refusals::Checked;
 use refusals::Refusal;
 
 pub mod cones;
@@ -83,6 +84,13 @@ pub enum Lookup {
 pub enum LayoutAnswer {
     Layout(SocWrLayout),
     Refused(Refusal),
+}
+
+// The answer of the record check, the layout, and how many limited branches come before a given one; nothing is counted where it refuses.
+pub struct CheckedLayout {
+    pub check: Checked,
+    pub layout: SocWrLayout,
+    pub before: usize,
 }
 
 pub enum ColumnAnswer {

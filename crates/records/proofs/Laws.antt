@@ -5,15 +5,15 @@ use mathlib.Core.Bool.{Bool, true, false, _&&_, _||_, cond}
 use mathlib.Core.List.{List}
 use lib.Dec.{T, eqb, ltb}
 use native.Mathlib.Omega.{arith}
-use borrow.Author.Tests.{lt-ltb, le-ltb, ltb-true, eqb-true, eqb-false, not-true}
+use borrow.Author.Tests.{ltb-true, eqb-true, eqb-false, not-true}
 use Rattle.lists.proofs.UpTo.{upTo-each, upTo-same}
 use Rattle.refusals.specs.Refusals.{_orElse_}
 use Rattle.refusals.specs.declared.Checked.the-variants.{Accepted}
 use Rattle.refusals.proofs.Laws.{orElse-accepted, test-held}
 use Rattle.records.specs.Fields.{kindOf, flagsOf, countOf, secondOf, fromOf, toOf, genBusOf, piecewiseOf, segmentsOf}
 use Rattle.records.specs.Network as Network
-use Rattle.records.specs.Check.{pick, zeroFloats, lengthCause, recordCause, recordCauses, branchCause, genForm, genCause, countSum, sumCause, checkOf}
-use Rattle.records.proofs.Causes.{counts-in-range}
+use Rattle.records.specs.Check.{zeroFloats, lengthCause, recordCause, recordCauses, branchCause, genForm, genCause, countSum, sumCause, checkOf}
+use Rattle.records.proofs.Causes.{counts-in-range, branch-kind, gen-kind}
 
 and-both : (a b : Bool) → a && b ≡ true → (a ≡ true) × (b ≡ true)
 and-both true b h = (refl, h)
@@ -27,14 +27,6 @@ module _ (n m k s : ℕ) (b : List ℕ) where
   each-record : (records : ℕ) → recordCauses n m k b records ≡ Accepted → (r : ℕ) → r < records → recordCause n m k b r ≡ Accepted
   unfolding recordCauses
   each-record = upTo-each _orElse_ Accepted (recordCause n m k b) orElse-accepted
-
-  branch-record : (e : ℕ) → e < m → recordCause n m k b (n + e) ≡ Accepted → branchCause n b (n + e) ≡ Accepted
-  unfolding recordCause pick
-  branch-record e h p = simp (le-ltb (n + e) n (omega arith), lt-ltb (n + e) (n + m) (omega arith)) at p
-
-  gen-record : (g : ℕ) → g < k → recordCause n m k b (n + m + g) ≡ Accepted → genCause n b (n + m + g) ≡ Accepted
-  unfolding recordCause pick
-  gen-record g h p = simp (le-ltb (n + m + g) n (omega arith), le-ltb (n + m + g) (n + m) (omega arith), lt-ltb (n + m + g) (n + m + k) (omega arith)) at p
 
   branch-ends : (r : ℕ) → branchCause n b r ≡ Accepted → (fromOf b r < n) × (toOf b r < n) × (fromOf b r ≡ toOf b r → ⊥)
   unfolding branchCause
@@ -73,8 +65,8 @@ module _ (n m k s : ℕ) (b : List ℕ) where
       let records = orElse-accepted _ _ (sized .1) in
       let bounds = counts-in-range n m k s (counts .0) in
       let each = each-record (n + m + k + s) (records .0) in
-      let branch : (e : ℕ) → e < m → branchCause n b (n + e) ≡ Accepted = λ e h. branch-record e h (each (n + e) (omega arith)) in
-      let gen : (g : ℕ) → g < k → genCause n b (n + m + g) ≡ Accepted = λ g h. gen-record g h (each (n + m + g) (omega arith)) in
+      let branch : (e : ℕ) → e < m → branchCause n b (n + e) ≡ Accepted = λ e h. sym (branch-kind n m k b e h) ∙ each (n + e) (omega arith) in
+      let gen : (g : ℕ) → g < k → genCause n b (n + m + g) ≡ Accepted = λ g h. sym (gen-kind n m k b g h) ∙ each (n + m + g) (omega arith) in
       record {
         few-buses = bounds .0;
         few-branches = bounds .1;

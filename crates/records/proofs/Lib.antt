@@ -2,3 +2,4 @@ pub mod Floats
 pub mod Causes
 pub mod Laws
 pub mod Sound
+pub mod Passed

@@ -86,6 +86,10 @@ recordCause n m k b r =
     (pick (ltb r (n + m + k)) (genCause n b r)
     (segmentCause b r)))
 
+-- the first cause among the count records from the first on, f r being that of record r
+unfoldable pub firstCause : (ℕ → Checked) → ℕ → ℕ → Checked
+firstCause f first count = upTo _orElse_ Accepted (λ i. f (first + i)) count
+
 -- the first record that has a cause
 unfoldable pub recordCauses : ℕ → ℕ → ℕ → List ℕ → ℕ → Checked
 recordCauses n m k b records = upTo _orElse_ Accepted (recordCause n m k b) records

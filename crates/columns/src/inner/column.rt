@@ -29,12 +29,14 @@ ghost use mathlib.Core.Path.{_≡_};
 ghost use Prim.Native.Nat.{_<_};
 ghost use lib.ListN.{length};
 ghost use Rattle.refusals.specs.Refusals.{writtenIf, leftIn};
+ghost use Rattle.numbering.specs.Tally.{tallyOf};
+ghost use Rattle.numbering.specs.declared.Tally.the-variants.{Limited};
 ghost use Rattle.solution.specs.Laid.{netOf, Laid};
 ghost use Rattle.elements.specs.Lengths.{parameterLen};
 ghost use Rattle.admittance.specs.Stores.{storedAll};
 ghost use Rattle.columns.specs.Jacobian.{stores, dim, jacobian, piecewiseCause, parameterCause, columnCause};
 
-// The stores of a column.
+// The stores of a column; before branch i there are so many limited ones.
 fn write(
     l: SocWrLayout,
     bytes: &[u8],
@@ -42,16 +44,18 @@ fn write(
     z: &[f64],
     p: Parameter,
     i: usize,
+    before: usize,
     column: &mut [f64],
 )
     requires { ⌜ Laid l (now bytes) ⌝ }
     requires { ⌜ i < parameterLen (l .n) (l .m) (l .k) p ⌝ }
+    requires { ⌜ (i < l .m → before ≡ tallyOf Limited (now bytes) (l .n) i) ⌝ }
     ensures { λ _. ⌜ now (column .exit) ≡ storedAll (stores (netOf l (now (bytes .entry))) (now (x .entry)) (now (z .entry)) p i) (now (column .entry)) ⌝ }
 {
     match p {
         Parameter::Demand(power) => demand(l, power, i, column),
         Parameter::Cost(term) => cost(l, term, i, x, column),
-        Parameter::LineLimit => line_limit(l, bytes, i, z, column),
+        Parameter::LineLimit => line_limit(l, bytes, i, before, z, column),
         Parameter::SeriesAdmittance(gb) => series_admittance(l, bytes, gb, i, x, z, column),
         Parameter::ShuntAdmittance(gb) => shunt(l, gb, i, x, z, column),
         Parameter::VoltageBound(bound) => voltage_bound(l, bound, i, z, column),
@@ -127,9 +131,11 @@ pub fn column_of(
     z: &[f64],
     p: Parameter,
     i: usize,
+    before: usize,
     column: &mut [f64],
 ) -> Written
     requires { ⌜ Laid l (now bytes) ⌝ }
+    requires { ⌜ (i < l .m → before ≡ tallyOf Limited (now bytes) (l .n) i) ⌝ }
     ensures { λ r. ⌜ r ≡ writtenIf (columnCause (netOf l (now (bytes .entry))) p i (length (now (x .entry))) (length (now (z .entry))) (length (now (column .entry)))) (dim (netOf l (now (bytes .entry)))) ⌝ }
     ensures { λ _. ⌜ now (column .exit) ≡ leftIn (columnCause (netOf l (now (bytes .entry))) p i (length (now (x .entry))) (length (now (z .entry))) (length (now (column .entry)))) (jacobian (netOf l (now (bytes .entry))) (now (x .entry)) (now (z .entry)) p i) (now (column .entry)) ⌝ }
 {
@@ -139,6 +145,6 @@ pub fn column_of(
         return written_if(check, need as u64);
     }
     fill_f64(column, need, 0.0);
-    write(l, bytes, x, z, p, i, &mut column[..need]);
+    write(l, bytes, x, z, p, i, before, &mut column[..need]);
     Written::Count(need as u64)
 }

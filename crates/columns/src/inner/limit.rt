@@ -2,9 +2,7 @@
 use admittance::inner::stores::value;
 use lists::inner::store_f64;
 use numbering::SocWrLayout;
-use numbering::Tally;
 use numbering::inner::nvar;
-use numbering::inner::tally::tally;
 use numbering::inner::thermal_base;
 use records::inner::thermal_limit_active;
 ghost use mathlib.Core.Path.{_≡_};
@@ -14,6 +12,8 @@ ghost use lib.ListN.{getD};
 ghost use lib.Ieee.{nan};
 ghost use Rattle.lists.specs.UpTo.{each};
 ghost use Rattle.numbering.specs.Numbering.{rowNumber};
+ghost use Rattle.numbering.specs.Tally.{tallyOf};
+ghost use Rattle.numbering.specs.declared.Tally.the-variants.{Limited};
 ghost use Rattle.numbering.specs.declared.RowName.the-variants.{Thermal};
 ghost use Rattle.admittance.specs.Stores.{put, storedAll};
 ghost use Rattle.solution.specs.Laid.{netOf, Laid};
@@ -30,24 +30,32 @@ fn six(nvar: u32, base: usize, z: &[f64], column: &mut [f64])
     }
 }
 
-// The first of a limited branch's six rows.
-fn r_thermal(l: SocWrLayout, bytes: &[u8], e: usize) -> usize
+// The first of a limited branch's six rows; before it there are so many limited branches.
+fn r_thermal(l: SocWrLayout, bytes: &[u8], e: usize, before: usize) -> usize
     requires { ⌜ Laid l (now bytes) ⌝ }
     requires { ⌜ e < l .m ⌝ }
+    requires { ⌜ before ≡ tallyOf Limited (now bytes) (l .n) e ⌝ }
     ensures { λ r. ⌜ r ≡ rowNumber (netOf l (now (bytes .entry))) (Thermal e 0) ⌝ }
     ensures { λ r. ⌜ r < 4294967296 ⌝ }
 {
-    let rank = tally(bytes, Tally::Limited, l.n, e);
-    thermal_base(l) as usize + 6 * rank
+    thermal_base(l) as usize + 6 * before
 }
 
 // The cones' z, or nothing where the branch has no limit.
-pub fn line_limit(l: SocWrLayout, bytes: &[u8], e: usize, z: &[f64], column: &mut [f64])
+pub fn line_limit(
+    l: SocWrLayout,
+    bytes: &[u8],
+    e: usize,
+    before: usize,
+    z: &[f64],
+    column: &mut [f64],
+)
     requires { ⌜ Laid l (now bytes) ⌝ }
     requires { ⌜ e < l .m ⌝ }
+    requires { ⌜ before ≡ tallyOf Limited (now bytes) (l .n) e ⌝ }
     ensures { λ _. ⌜ now (column .exit) ≡ storedAll (limitStores (netOf l (now (bytes .entry))) (now (z .entry)) e) (now (column .entry)) ⌝ }
 {
     if thermal_limit_active(bytes, l.n + e) {
-        six(nvar(l), r_thermal(l, bytes, e), z, column);
+        six(nvar(l), r_thermal(l, bytes, e, before), z, column);
     }
 }

@@ -1,48 +1,35 @@
 -- `records::record_causes` meets its contract. Assumes nothing.
 use borrow.Author.Needs.{needs}
-use Prim.Native.Nat.{_≤_, _-_}
-use mathlib.Core.Path.{_≡_, sym, _∙_}
-use mathlib.Core.Bool.{true, false}
+use mathlib.Core.Path.{_≡_, sym, _∙_, ap}
 use native.Mathlib.Omega.{arith}
-use Rattle.lists.specs.UpTo.{upTo}
-use Rattle.refusals.specs.Refusals.{isRefused}
-use Rattle.refusals.specs.declared.Checked.the-variants.{Accepted}
-use Rattle.refusals.proofs.Laws.{passed}
-use Rattle.records.specs.Check.{recordCause, recordCauses}
-use Rattle.records.proofs.Causes.{causes-more, cause-found}
+use Prim.Native.Nat.{_+_}
+use lib.Dec.{eqb}
+use Rattle.refusals.specs.Refusals.{_orElse_, refuseUnless}
+use Rattle.refusals.specs.declared.Checked.{Checked}
+use Rattle.refusals.specs.declared.Refusal.the-variants.{BadRecord}
+use Rattle.records.specs.Counts.{countsIf}
+use Rattle.records.proofs.Causes.{checked-by-kind}
+use Rattle.records.proofs.Passed.{counts-passed, counts-by-kind}
 use Rattle.records.proofs.record_causes.Statement.{statement}
 use Rattle.records.proofs.record_causes.Tie as tie
 
-abbrev Inv-loop : tie.InvT-loop
-Inv-loop n m k b records r₀ r = (r ≤ records) × (recordCauses n m k b r ≡ Accepted)
+add-counts-if : tie.Need-add-counts-if
+add-counts-if c = omega (arith, c .before .before .before .before .before .before .before .before .before .before .before .before .before .before .before .pre, c .before .before .before .before .before .before .before .before .before .before .before .before .branch-causes .ensures .1 .1, c .before .before .before .before .before .before .before .before .before .before .before .branch-causes2 .ensures .1 .1)
 
-abbrev μ-loop : tie.MeasureT-loop
-μ-loop n m k b records r₀ r = records - r
-
-loop-holds : tie.Need-loop-holds Inv-loop μ-loop
-unfolding recordCauses upTo
-loop-holds c = search needs
-
-returns : tie.Need-returns Inv-loop μ-loop
+returns : tie.Need-returns
 returns c =
-    let a = c .before .before .before .before .before .before .args in
-    let l = c .before .before .before .before .loop in
-    let d = c .before .before .record-cause in
-    let refused : isRefused (recordCause (a .n) (a .m) (a .k) (a .b .now) (l .r)) ≡ true = cc in
-    d .ensures ∙ sym (cause-found (a .n) (a .m) (a .k) (a .b .now) (l .r) (a .records) (omega arith) (l .inv .1) refused)
-
-loop-again : tie.Need-loop-again Inv-loop μ-loop
-loop-again c =
-    let a = c .before .before .before .before .before .before .args in
-    let l = c .before .before .before .before .loop in
-    let d = c .before .before .record-cause in
-    let kept : isRefused (d .result) ≡ false = cc in
-    (omega arith, causes-more (a .n) (a .m) (a .k) (a .b .now) (l .r) (l .inv .1) (sym (d .ensures) ∙ passed _ kept))
-
-returns-2 : tie.Need-returns-2 Inv-loop μ-loop
-returns-2 c =
-    let e : c .before .loop .r ≡ c .before .before .before .args .records = omega arith in
-    rw (← e) (sym (c .before .loop .inv .1))
+    let a = c .before .before .before .before .before .before .before .before .before .before .before .before .before .before .before .before .args in
+    let some = c .before .before .before .before .before .before .before .before .before .before .before .before .before .branch-causes in
+    let others = c .before .before .before .before .before .before .before .before .before .before .before .before .branch-causes2 in
+    let gens = c .before .before .before .before .before .before .before .before .before .before .before .gen-causes in
+    let few = c .before .before .before .before .before .before .before .before .before .before .before .before .before .before .before .before .pre in
+    let joined : c .before .before .before .or-else5 .result
+    ≡ c .before .before .before .before .before .before .before .before .before .before .before .before .before .before .bus-causes .result orElse some .result .check orElse others .result .check orElse gens .result .check orElse c .before .before .before .before .before .before .before .before .before .before .segment-causes .result orElse refuseUnless (eqb (gens .result .counts) (a .s)) (BadRecord (a .n + a .m + a .k + a .s)) =
+    rw (c .before .before .before .or-else5 .ensures, c .before .before .before .before .or-else4 .ensures, c .before .before .before .before .before .or-else3 .ensures, c .before .before .before .before .before .before .or-else2 .ensures, c .before .before .before .before .before .before .before .or-else .ensures, c .before .before .before .before .before .before .before .before .refuse-unless .ensures) in
+    let whole = joined ∙ checked-by-kind (a .n) (a .m) (a .k) (a .b .now) (a .s) (a .e) (few .4) (c .before .before .before .before .before .before .before .before .before .before .before .before .before .before .bus-causes .ensures) (some .ensures .0) (others .ensures .0) (gens .ensures .0) (gens .ensures .1 .1) (c .before .before .before .before .before .before .before .before .before .before .segment-causes .ensures) in
+    rw (← whole)
+    (counts-passed (a .n) (a .m) (a .k) (a .b .now) (a .e) _ (c .counts-if .ensures)
+    (λ h. counts-by-kind (a .n) (a .m) (a .k) (a .b .now) (a .e) (few .4) _ _ (some .ensures .1 .0) (others .ensures .1 .0) (gens .ensures .1 .0) (sym joined ∙ h)))
 
 pub record-causes-spec : {M : Type 1} → statement M
-record-causes-spec = tie.close (tie.spec Inv-loop μ-loop loop-holds (λ c κs. search needs) (λ c κs. search needs) returns (λ c. search needs) (λ c. search needs) loop-again returns-2)
+record-causes-spec = tie.close (tie.spec (λ c. search needs) (λ c. search needs) (λ c. search needs) (λ c κs. search needs) (λ c κs. search needs) (λ c. search needs) (λ c. search needs) (λ c κs. search needs) (λ c. search needs) (λ c κs. search needs) (λ c. search needs) (λ c. search needs) (λ c κs. search needs) (λ c κs. search needs) (λ c κs. search needs) (λ c κs. search needs) (λ c κs. search needs) (λ c κs. search needs) (λ c κs. search needs) add-counts-if (λ c κs. search needs) returns)

@@ -48,7 +48,7 @@ write-requires : tie.Need-write-requires
 unfolding jacobian
 write-requires c κs =
     let a = c .before .before .before .before .before .before .before .before .before .before .before .before .before .args in
-    (c .before .before .before .before .before .before .before .before .before .before .before .before .before .pre, column-index (netOf (a .l) (a .bytes .now)) (a .p) (a .i) _ _ _ (accepted-by (c .before .before .before .before .before .before .before .before .column-cause .ensures) (c .before .before .before .before .before .before .is-refused .ensures) (c .before .before .before .before .before .if1 .left)))
+    (c .before .before .before .before .before .before .before .before .before .before .before .before .before .pre .0, (column-index (netOf (a .l) (a .bytes .now)) (a .p) (a .i) _ _ _ (accepted-by (c .before .before .before .before .before .before .before .before .column-cause .ensures) (c .before .before .before .before .before .before .is-refused .ensures) (c .before .before .before .before .before .if1 .left)), c .before .before .before .before .before .before .before .before .before .before .before .before .before .pre .1))
 
 returns-2 : tie.Need-returns-2
 unfolding jacobian

@@ -15,31 +15,34 @@ use Rattle.columns.proofs.inner.column.write.Tie as tie
 
 demand-requires : tie.Need-demand-requires
 unfolding stores storedAll
-demand-requires c κs = (c .before .before .before .before .before .before .before .before .pre .0 .range, rw (c .before .before .p .given .1) at (c .before .before .before .before .before .before .before .before .pre .1))
+demand-requires c κs = (c .before .before .before .before .before .before .before .before .pre .0 .range, rw (c .before .before .p .given .1) at (c .before .before .before .before .before .before .before .before .pre .1 .0))
 
 cost-requires : tie.Need-cost-requires
 unfolding stores storedAll
-cost-requires c κs = (c .before .before .before .before .before .before .before .before .pre .0 .range, rw (c .before .before .p2 .given .1) at (c .before .before .before .before .before .before .before .before .pre .1))
+cost-requires c κs = (c .before .before .before .before .before .before .before .before .pre .0 .range, rw (c .before .before .p2 .given .1) at (c .before .before .before .before .before .before .before .before .pre .1 .0))
 
 line-limit-requires : tie.Need-line-limit-requires
 unfolding stores storedAll
-line-limit-requires c κs = (c .before .before .before .before .before .before .before .pre .0, rw (c .before .enum-told .given .1) at (c .before .before .before .before .before .before .before .pre .1))
+line-limit-requires c κs =
+    let pre = c .before .before .before .before .before .before .before .pre in
+    let below = rw (c .before .enum-told .given .1) at (pre .1 .0) in
+    (pre .0, (below, pre .1 .1 below))
 
 series-admittance-requires : tie.Need-series-admittance-requires
 unfolding stores storedAll
-series-admittance-requires c κs = (c .before .before .before .before .before .before .before .before .pre .0, rw (c .before .before .p3 .given .1) at (c .before .before .before .before .before .before .before .before .pre .1))
+series-admittance-requires c κs = (c .before .before .before .before .before .before .before .before .pre .0, rw (c .before .before .p3 .given .1) at (c .before .before .before .before .before .before .before .before .pre .1 .0))
 
 shunt-requires : tie.Need-shunt-requires
 unfolding stores storedAll
-shunt-requires c κs = (c .before .before .before .before .before .before .before .before .pre .0 .range, rw (c .before .before .p4 .given .1) at (c .before .before .before .before .before .before .before .before .pre .1))
+shunt-requires c κs = (c .before .before .before .before .before .before .before .before .pre .0 .range, rw (c .before .before .p4 .given .1) at (c .before .before .before .before .before .before .before .before .pre .1 .0))
 
 voltage-bound-requires : tie.Need-voltage-bound-requires
 unfolding stores storedAll
-voltage-bound-requires c κs = (c .before .before .before .before .before .before .before .before .pre .0 .range, rw (c .before .before .p5 .given .1) at (c .before .before .before .before .before .before .before .before .pre .1))
+voltage-bound-requires c κs = (c .before .before .before .before .before .before .before .before .pre .0 .range, rw (c .before .before .p5 .given .1) at (c .before .before .before .before .before .before .before .before .pre .1 .0))
 
 gen-bound-requires : tie.Need-gen-bound-requires
 unfolding stores storedAll
-gen-bound-requires c κs = (c .before .before .before .before .before .before .before .before .pre .0 .range, rw (c .before .before .p6 .given .1) at (c .before .before .before .before .before .before .before .before .pre .1))
+gen-bound-requires c κs = (c .before .before .before .before .before .before .before .before .pre .0 .range, rw (c .before .before .p6 .given .1) at (c .before .before .before .before .before .before .before .before .pre .1 .0))
 
 returns : tie.Need-returns
 returns c =
