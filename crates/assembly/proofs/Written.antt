@@ -1,13 +1,12 @@
 -- The code's cells are the columns' cells. Assumes nothing.
 use Prim.Native.Nat.{ℕ, _+_, _*_, _≤_, _<_}
-use mathlib.Core.Path.{_≡_, refl, sym, ap, _∙_}
+use mathlib.Core.Path.{_≡_, refl, ap}
 use mathlib.Core.Bool.{Bool, true, false}
-use mathlib.Core.List.{List, [], _∷_, _++_}
+use mathlib.Core.List.{List, [], _∷_}
 use native.Mathlib.Omega.{arith}
 use lib.ListN.{length}
 use lib.Ieee.{Float}
 use Rattle.lists.specs.UpTo.{each, when, sum, bit, count}
-use Rattle.lists.specs.Entries.{Cell}
 use Rattle.lists.specs.Compressed.{CellOut}
 use Rattle.lists.proofs.Each.{each-ext}
 use Rattle.lists.proofs.Sums.{sum-mono, sum-next, bit-le}

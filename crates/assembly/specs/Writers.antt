@@ -7,7 +7,6 @@ use Rattle.lists.specs.UpTo.{when}
 use Rattle.lists.specs.Entries.{Cell}
 use Rattle.records.specs.AcNetwork.{AcNetwork}
 use Rattle.records.specs.Fields.{slopeOf}
-use Rattle.numbering.specs.Numbering.{rowNumber}
 use Rattle.numbering.specs.declared.RowName.the-variants.{Pbal, OhmPf, OhmQf, OhmPt, OhmQt, Pgub, Pglb, Angub, Anglb}
 use Rattle.rows.specs.Rows.{one, minusOne, constant64}
 use Rattle.matrix.specs.Columns.{oneCell, nonzeroCell, at, keep, costCells}

@@ -14,21 +14,16 @@ use coefficients::inner::wr_products;
 use lists::inner::store_u32;
 use numbering::SocWrLayout;
 ghost use mathlib.Core.Path.{_≡_};
-ghost use mathlib.Core.List.{[], _∷_, _++_};
 ghost use Prim.Native.Nat.{_+_, _*_, _≤_, _<_};
-ghost use lib.ListN.{length};
 ghost use Rattle.lists.specs.UpTo as UpTo;
 ghost use Rattle.lists.specs.UpTo.{listed, count};
 ghost use Rattle.lists.specs.Compressed.{cellOut, WroteCells};
-ghost use Rattle.records.specs.Fields.{slopeOf};
 ghost use Rattle.numbering.specs.Numbering.{rowNumber};
-ghost use Rattle.numbering.specs.declared.RowName.the-variants.{OhmPf, OhmQf, OhmPt, OhmQt};
-ghost use Rattle.rows.specs.Rows.{one, minusOne, constant64};
-ghost use Rattle.matrix.specs.Columns.{oneCell, nonzeroCell, pgCells, qgCells, wrCells, wiCells, flowCells, costCells, balanceRow, thermalPlace};
+ghost use Rattle.matrix.specs.Columns.{wrCells, wiCells, flowCells, balanceRow, thermalPlace};
 ghost use Rattle.cells.specs.Ready.{Ready, netOf};
 ghost use Rattle.coefficients.specs.Series.{rowKind};
 ghost use Rattle.cells.specs.Columns.{Columns};
-ghost use Rattle.assembly.specs.Writers.{bounds, slopes, pgHead, wrAngles, products, flow, ones, costTurn};
+ghost use Rattle.assembly.specs.Writers.{wrAngles, products, flow};
 
 // The four Ohm rows of branch e.
 fn put_products(

@@ -4,21 +4,16 @@ use cells::inner::put_nonzero;
 use lists::inner::store_u32;
 use numbering::SocWrLayout;
 ghost use mathlib.Core.Path.{_≡_};
-ghost use mathlib.Core.List.{[], _∷_, _++_};
+ghost use mathlib.Core.List.{[], _∷_};
 ghost use Prim.Native.Nat.{_+_, _*_, _≤_, _<_};
 ghost use lib.ListN.{length};
 ghost use Rattle.lists.specs.UpTo as UpTo;
 ghost use Rattle.lists.specs.UpTo.{each, listed, when, sum};
 ghost use Rattle.lists.specs.Compressed.{cellOut, WroteCells};
-ghost use Rattle.records.specs.Fields.{slopeOf};
-ghost use Rattle.numbering.specs.Numbering.{rowNumber};
-ghost use Rattle.numbering.specs.declared.RowName.the-variants.{OhmPf, OhmQf, OhmPt, OhmQt};
-ghost use Rattle.rows.specs.Rows.{one, minusOne, constant64};
-ghost use Rattle.matrix.specs.Columns.{oneCell, nonzeroCell, pgCells, qgCells, wrCells, wiCells, flowCells, costCells};
+ghost use Rattle.matrix.specs.Columns.{pgCells, qgCells};
 ghost use Rattle.cells.specs.Ready.{Ready, netOf};
-ghost use Rattle.coefficients.specs.Series.{rowKind};
 ghost use Rattle.cells.specs.Columns.{Columns};
-ghost use Rattle.assembly.specs.Writers.{bounds, slopes, pgHead, wrAngles, products, flow, ones, costTurn};
+ghost use Rattle.assembly.specs.Writers.{bounds, slopes, pgHead, ones, costTurn};
 
 // The rows of an upper and a lower bound, where they are active.
 pub fn put_bounds(

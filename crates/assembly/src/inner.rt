@@ -12,7 +12,6 @@ use coefficients::inner::w_value;
 use lists::inner::store_u32;
 use numbering::SocWrLayout;
 ghost use mathlib.Core.Path.{_≡_};
-ghost use mathlib.Core.List.{_++_};
 ghost use Prim.Native.Nat.{_+_, _*_, _≤_, _<_};
 ghost use lib.ListN.{length};
 ghost use Rattle.lists.specs.UpTo.{listed, sum};
@@ -21,7 +20,6 @@ ghost use Rattle.rows.specs.Program.{matrix};
 ghost use Rattle.matrix.specs.Columns.{wCells};
 ghost use Rattle.cells.specs.Ready.{Ready, netOf};
 ghost use Rattle.cells.specs.Columns.{Columns, Whole};
-ghost use Rattle.bus_columns.specs.Buses.{busItems};
 ghost use Rattle.assembly.specs.Parts.{generatorColumns, productColumns, flowColumns, branchColumns, busCount, endCount, mostA};
 
 // The pg and qg columns.

@@ -2,7 +2,6 @@
 use lib.Ieee.{Float}
 use Rattle.records.specs.AcNetwork.{Branch}
 use Rattle.rows.specs.Rows.{zero64, OhmRow, pf, qf, pt, qt, OhmPlace}
-use Rattle.rows.specs.Rows as Rows
 use Rattle.matrix.specs.Columns.{ohmValue}
 use Rattle.coefficients.specs.declared.Series.{Series}
 use Rattle.coefficients.specs.declared.Products.{Products}
