@@ -1,11 +1,18 @@
-//! Times of the entries beside the Rust's, in one run: medians of rounds that take turns.
+//! Times of the entries beside the Rust's, in one run: the least of rounds that take turns.
 
 mod clock;
-#[cfg(part = "combination")]
+mod columns;
 mod combination;
+#[allow(dead_code)]
+#[path = "../oracle/compare/full.rs"]
+mod full;
+#[allow(dead_code)]
+mod grid;
+mod kkt;
 #[allow(dead_code)]
 #[path = "../oracle/compare/records/network.rs"]
 mod network;
+mod program;
 #[allow(dead_code)]
 #[path = "../oracle/compare/random.rs"]
 mod random;
@@ -13,9 +20,14 @@ mod records;
 #[allow(dead_code)]
 #[path = "../oracle/compare/records/shapes.rs"]
 mod shapes;
+#[allow(dead_code)]
+#[path = "../oracle/compare/system.rs"]
+mod system;
 
 fn main() {
     records::print();
-    #[cfg(part = "combination")]
     combination::print();
+    program::print();
+    kkt::print();
+    columns::print();
 }

@@ -43,6 +43,12 @@ typedef struct socwr_name {
     uint64_t number, value, block, index, place;
 } socwr_name;
 
+/* sign is +1.0 or -1.0, 0.0 on a refusal. */
+typedef struct socwr_selector {
+    uint64_t number, value;
+    double sign;
+} socwr_selector;
+
 /* The blocks of columns. */
 enum {
     SOCWR_COLUMN_PG,
@@ -117,6 +123,11 @@ enum {
 };
 
 enum { SOCWR_FORWARD, SOCWR_ADJOINT, SOCWR_AUTO };
+
+enum { SOCWR_AXIS_BUS, SOCWR_AXIS_BRANCH, SOCWR_AXIS_GENERATOR, SOCWR_AXIS_CONSTRAINT };
+
+/* The last stands for every further objective, whose value is the solver's. */
+enum { SOCWR_FEASIBILITY, SOCWR_NETWORK_GENERATOR_COST, SOCWR_OTHER_OBJECTIVE };
 
 /* Records and numbering. n, m, k, s count the buses, branches, generators and segments in records. */
 
@@ -201,6 +212,87 @@ socwr_answer socwr_combine(uint64_t mode, uint64_t dim, uint64_t columns,
                            const double *rhs, uint64_t rhs_len,
                            const double *solution, uint64_t solution_len,
                            double *out, uint64_t out_len);
+
+/* Program and reading. min 1/2 x'Px + q'x, with Ax + s = b and s in the cones. */
+
+/* P and A by columns: the entries of column c lie from starts[c] up to starts[c + 1], rows ascending; zeros are
+   left out. starts has nvar + 1 elements. Answers the count of entries. */
+socwr_answer socwr_program_p(uint64_t n, uint64_t m, uint64_t k, uint64_t s,
+                             const uint8_t *records, uint64_t records_len,
+                             uint32_t *starts, uint64_t starts_len,
+                             uint32_t *rows, uint64_t rows_len,
+                             double *values, uint64_t values_len);
+socwr_answer socwr_program_a(uint64_t n, uint64_t m, uint64_t k, uint64_t s,
+                             const uint8_t *records, uint64_t records_len,
+                             uint32_t *starts, uint64_t starts_len,
+                             uint32_t *rows, uint64_t rows_len,
+                             double *values, uint64_t values_len);
+
+/* q and b. Answers nvar, and ncon. */
+socwr_answer socwr_program_q(uint64_t n, uint64_t m, uint64_t k, uint64_t s,
+                             const uint8_t *records, uint64_t records_len,
+                             double *q, uint64_t q_len);
+socwr_answer socwr_program_b(uint64_t n, uint64_t m, uint64_t k, uint64_t s,
+                             const uint8_t *records, uint64_t records_len,
+                             double *b, uint64_t b_len);
+
+/* Whether x has nvar elements and z has ncon. The list of a block of columns is then part of x:
+   it begins at the number of the block's first column. */
+socwr_answer socwr_reading_check(uint64_t n, uint64_t m, uint64_t k, uint64_t s,
+                                 const uint8_t *records, uint64_t records_len,
+                                 const double *x, uint64_t x_len,
+                                 const double *z, uint64_t z_len);
+
+/* The active prices of the buses, then the reactive ones. Answers 2 n. */
+socwr_answer socwr_prices(uint64_t n, uint64_t m, uint64_t k, uint64_t s,
+                          const uint8_t *records, uint64_t records_len,
+                          const double *z, uint64_t z_len,
+                          double *prices, uint64_t prices_len);
+
+/* The value of an objective at x; solver is the solver's own number. */
+socwr_scalar socwr_objective(uint64_t n, uint64_t m, uint64_t k, uint64_t s,
+                             const uint8_t *records, uint64_t records_len,
+                             uint64_t objective, const double *x, uint64_t x_len, double solver);
+
+/* KKT entries, columns and selectors. x has nvar elements, z ncon. The matrix has nvar + ncon rows and columns;
+   row r of the program is row nvar + r of it. */
+
+/* The entries of the KKT matrix at x and z: row, column and value of each. Answers their count, which is at most
+   10 n + 17 k + 82 m + 5 s + 26 t. */
+socwr_answer socwr_kkt_entries(uint64_t n, uint64_t m, uint64_t k, uint64_t s,
+                               const uint8_t *records, uint64_t records_len,
+                               const double *x, uint64_t x_len,
+                               const double *z, uint64_t z_len,
+                               uint32_t *rows, uint64_t rows_len,
+                               uint32_t *cols, uint64_t cols_len,
+                               double *values, uint64_t values_len);
+
+/* How many elements a parameter, and an operand, ranges over. */
+socwr_answer socwr_parameter_len(uint64_t n, uint64_t m, uint64_t k, uint64_t s,
+                                 const uint8_t *records, uint64_t records_len, uint64_t parameter);
+socwr_answer socwr_operand_len(uint64_t n, uint64_t m, uint64_t k, uint64_t s,
+                               const uint8_t *records, uint64_t records_len, uint64_t operand);
+
+/* One column of the parameter's Jacobian at x and z: that of the element index. Answers nvar + ncon. */
+socwr_answer socwr_parameter_jacobian(uint64_t n, uint64_t m, uint64_t k, uint64_t s,
+                                      const uint8_t *records, uint64_t records_len,
+                                      const double *x, uint64_t x_len,
+                                      const double *z, uint64_t z_len,
+                                      uint64_t parameter, uint64_t index,
+                                      double *column, uint64_t column_len);
+
+/* The rows of a solution that an operand reads, one of weight 1.0 for each item, and the sign that it is reported
+   with. starts has one element more than there are items. Answers the count of items. */
+socwr_selector socwr_operand_selector(uint64_t n, uint64_t m, uint64_t k, uint64_t s,
+                                      const uint8_t *records, uint64_t records_len, uint64_t operand,
+                                      uint32_t *starts, uint64_t starts_len,
+                                      uint32_t *rows, uint64_t rows_len,
+                                      double *weights, uint64_t weights_len,
+                                      uint32_t *elements, uint64_t elements_len);
+
+/* The id of an element; on the constraint axis the index itself, every index. */
+socwr_answer socwr_element_id(uint64_t n, uint64_t m, uint64_t k, uint64_t s,
+                              const uint8_t *records, uint64_t records_len, uint64_t axis, uint64_t index);
 
 #ifdef __cplusplus
 }

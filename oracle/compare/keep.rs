@@ -1,7 +1,9 @@
 //! A sample of the oracle's answers, in the format of docs/VECTORS.md.
 
-#[cfg(part = "combination")]
+use crate::columns;
 use crate::combination;
+use crate::kkt;
+use crate::program;
 use crate::records;
 
 /// Words of 64 bits, little-endian.
@@ -35,8 +37,10 @@ pub fn write(path: &str) {
     let mut words = Words::default();
     words.bytes(head().as_bytes());
     let mut counts = records::keep(&mut words);
-    #[cfg(part = "combination")]
     counts.add(combination::keep(&mut words));
+    counts.add(program::keep(&mut words));
+    counts.add(kkt::keep(&mut words));
+    counts.add(columns::keep(&mut words));
     words.word(0);
     std::fs::write(path, &words.0).expect("the file can be written");
     println!("{path}: {} cases, {} answers, {} bytes", counts.cases, counts.answers, words.0.len());

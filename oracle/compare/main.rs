@@ -1,25 +1,34 @@
 //! Compares the C entries of the static library with the oracle, bit for bit.
 //! With `--keep FILE` it writes a sample of the oracle's answers instead.
-//! A part of the entries is compared where it is listed in oracle/parts.
-#![cfg_attr(not(part = "combination"), allow(dead_code, unused_mut))]
 
-#[cfg(part = "combination")]
+mod codes;
+mod columns;
 mod combination;
+mod full;
+mod items;
 mod keep;
+mod kkt;
+mod left;
 mod lent;
+mod on_network;
 mod outcome;
+mod program;
 mod random;
 mod records;
 mod report;
+mod solved;
 mod sums;
+mod system;
 
 /// Prints the lines of some subjects; whether nothing differs.
 type Part = fn() -> bool;
 
 fn parts() -> Vec<Part> {
     let mut all: Vec<Part> = vec![sums::compare, records::compare];
-    #[cfg(part = "combination")]
     all.extend(combination::PARTS);
+    all.push(program::compare);
+    all.push(kkt::compare);
+    all.push(columns::compare);
     all
 }
 

@@ -38,6 +38,14 @@ pub struct Name {
     pub place: u64,
 }
 
+#[repr(C)]
+#[derive(Clone, Copy, Debug)]
+pub struct Selector {
+    pub number: u64,
+    pub value: u64,
+    pub sign: f64,
+}
+
 type U8s = *const u8;
 type U32s = *const u32;
 type F64s = *const f64;
@@ -74,4 +82,39 @@ extern "C" {
         mode: u64, dim: u64, columns: u64, starts: U32s, starts_len: u64, rows: U32s, rows_len: u64, weights: F64s, weights_len: u64,
         sign: f64, rhs: F64s, rhs_len: u64, solution: F64s, solution_len: u64, out: *mut f64, out_len: u64,
     ) -> Answer;
+    pub fn socwr_program_p(
+        n: u64, m: u64, k: u64, s: u64, records: U8s, records_len: u64,
+        starts: *mut u32, starts_len: u64, rows: *mut u32, rows_len: u64, values: *mut f64, values_len: u64,
+    ) -> Answer;
+    pub fn socwr_program_q(n: u64, m: u64, k: u64, s: u64, records: U8s, records_len: u64, q: *mut f64, q_len: u64) -> Answer;
+    pub fn socwr_program_a(
+        n: u64, m: u64, k: u64, s: u64, records: U8s, records_len: u64,
+        starts: *mut u32, starts_len: u64, rows: *mut u32, rows_len: u64, values: *mut f64, values_len: u64,
+    ) -> Answer;
+    pub fn socwr_program_b(n: u64, m: u64, k: u64, s: u64, records: U8s, records_len: u64, b: *mut f64, b_len: u64) -> Answer;
+    pub fn socwr_reading_check(
+        n: u64, m: u64, k: u64, s: u64, records: U8s, records_len: u64, x: F64s, x_len: u64, z: F64s, z_len: u64,
+    ) -> Answer;
+    pub fn socwr_prices(
+        n: u64, m: u64, k: u64, s: u64, records: U8s, records_len: u64, z: F64s, z_len: u64, prices: *mut f64, prices_len: u64,
+    ) -> Answer;
+    pub fn socwr_objective(
+        n: u64, m: u64, k: u64, s: u64, records: U8s, records_len: u64, objective: u64, x: F64s, x_len: u64, solver: f64,
+    ) -> Scalar;
+    pub fn socwr_kkt_entries(
+        n: u64, m: u64, k: u64, s: u64, records: U8s, records_len: u64, x: F64s, x_len: u64, z: F64s, z_len: u64,
+        rows: *mut u32, rows_len: u64, cols: *mut u32, cols_len: u64, values: *mut f64, values_len: u64,
+    ) -> Answer;
+    pub fn socwr_parameter_len(n: u64, m: u64, k: u64, s: u64, records: U8s, records_len: u64, parameter: u64) -> Answer;
+    pub fn socwr_operand_len(n: u64, m: u64, k: u64, s: u64, records: U8s, records_len: u64, operand: u64) -> Answer;
+    pub fn socwr_parameter_jacobian(
+        n: u64, m: u64, k: u64, s: u64, records: U8s, records_len: u64, x: F64s, x_len: u64, z: F64s, z_len: u64,
+        parameter: u64, index: u64, column: *mut f64, column_len: u64,
+    ) -> Answer;
+    pub fn socwr_operand_selector(
+        n: u64, m: u64, k: u64, s: u64, records: U8s, records_len: u64, operand: u64,
+        starts: *mut u32, starts_len: u64, rows: *mut u32, rows_len: u64,
+        weights: *mut f64, weights_len: u64, elements: *mut u32, elements_len: u64,
+    ) -> Selector;
+    pub fn socwr_element_id(n: u64, m: u64, k: u64, s: u64, records: U8s, records_len: u64, axis: u64, index: u64) -> Answer;
 }

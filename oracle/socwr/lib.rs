@@ -3,7 +3,7 @@
 mod declared;
 
 use declared::*;
-pub use declared::{Answer, Name, Scalar, Sizes};
+pub use declared::{Answer, Name, Scalar, Selector, Sizes};
 use plain::Counts;
 
 /// A network as it is handed over.
@@ -135,4 +135,86 @@ pub fn combine(
     out: &mut [f64],
 ) -> Answer {
     lent!(socwr_combine(mode, dim, columns ; starts, rows, weights ; sign ; rhs, solution ; out))
+}
+
+/// P by columns; A likewise.
+#[inline]
+pub fn program_p(net: Net, starts: &mut [u32], rows: &mut [u32], values: &mut [f64]) -> Answer {
+    let (s, r, v) = (starts.len() as u64, rows.len() as u64, values.len() as u64);
+    on!(socwr_program_p, net, starts.as_mut_ptr(), s, rows.as_mut_ptr(), r, values.as_mut_ptr(), v)
+}
+
+#[inline]
+pub fn program_a(net: Net, starts: &mut [u32], rows: &mut [u32], values: &mut [f64]) -> Answer {
+    let (s, r, v) = (starts.len() as u64, rows.len() as u64, values.len() as u64);
+    on!(socwr_program_a, net, starts.as_mut_ptr(), s, rows.as_mut_ptr(), r, values.as_mut_ptr(), v)
+}
+
+#[inline]
+pub fn program_q(net: Net, q: &mut [f64]) -> Answer {
+    on!(socwr_program_q, net, q.as_mut_ptr(), q.len() as u64)
+}
+
+#[inline]
+pub fn program_b(net: Net, b: &mut [f64]) -> Answer {
+    on!(socwr_program_b, net, b.as_mut_ptr(), b.len() as u64)
+}
+
+#[inline]
+pub fn reading_check(net: Net, x: &[f64], z: &[f64]) -> Answer {
+    on!(socwr_reading_check, net, x.as_ptr(), x.len() as u64, z.as_ptr(), z.len() as u64)
+}
+
+#[inline]
+pub fn prices(net: Net, z: &[f64], prices: &mut [f64]) -> Answer {
+    on!(socwr_prices, net, z.as_ptr(), z.len() as u64, prices.as_mut_ptr(), prices.len() as u64)
+}
+
+#[inline]
+pub fn objective(net: Net, objective: u64, x: &[f64], solver: f64) -> Scalar {
+    on!(socwr_objective, net, objective, x.as_ptr(), x.len() as u64, solver)
+}
+
+/// Calls an entry on a network that takes slices: those to read, then numbers, then those to write.
+macro_rules! lent_on {
+    ($f:ident ( $net:expr ; $($read:ident),* ; $($plain:expr),* ; $($write:ident),* )) => {
+        on!($f, $net $(, $read.as_ptr(), $read.len() as u64)* $(, $plain)* $(, $write.as_mut_ptr(), $write.len() as u64)*)
+    };
+}
+
+#[inline]
+pub fn kkt_entries(net: Net, x: &[f64], z: &[f64], rows: &mut [u32], cols: &mut [u32], values: &mut [f64]) -> Answer {
+    lent_on!(socwr_kkt_entries(net ; x, z ; ; rows, cols, values))
+}
+
+#[inline]
+pub fn parameter_len(net: Net, parameter: u64) -> Answer {
+    on!(socwr_parameter_len, net, parameter)
+}
+
+#[inline]
+pub fn operand_len(net: Net, operand: u64) -> Answer {
+    on!(socwr_operand_len, net, operand)
+}
+
+#[inline]
+pub fn parameter_jacobian(net: Net, x: &[f64], z: &[f64], parameter: u64, index: u64, column: &mut [f64]) -> Answer {
+    lent_on!(socwr_parameter_jacobian(net ; x, z ; parameter, index ; column))
+}
+
+#[inline]
+pub fn operand_selector(
+    net: Net,
+    operand: u64,
+    starts: &mut [u32],
+    rows: &mut [u32],
+    weights: &mut [f64],
+    elements: &mut [u32],
+) -> Selector {
+    lent_on!(socwr_operand_selector(net ; ; operand ; starts, rows, weights, elements))
+}
+
+#[inline]
+pub fn element_id(net: Net, axis: u64, index: u64) -> Answer {
+    on!(socwr_element_id, net, axis, index)
 }

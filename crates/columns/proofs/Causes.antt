@@ -15,10 +15,10 @@ use Rattle.refusals.proofs.Laws.{orElse-accepted, test-held, has-room}
 use Rattle.records.specs.AcNetwork.{AcNetwork}
 use Rattle.interface.specs.declared.Parameter.{Parameter}
 use Rattle.interface.specs.declared.Parameter.the-variants.{Demand, Cost, LineLimit, SeriesAdmittance, ShuntAdmittance, VoltageBound, GenBound, Transformer, Switching, ConstraintLimit}
-use Rattle.columns.specs.Stores.{Store, storedAll}
-use Rattle.columns.specs.Lengths.{parameterLen, asksCost}
+use Rattle.admittance.specs.Stores.{Store, storedAll}
+use Rattle.elements.specs.Lengths.{parameterLen, asksCost}
 use Rattle.columns.specs.Jacobian.{dim, parameterCause, columnCause}
-use Rattle.columns.proofs.Stored.{stored-length}
+use Rattle.admittance.proofs.Stored.{stored-length}
 
 -- a coefficient of a cost is a generator's
 pub cost-below : (n m k i : ℕ) (p : Parameter) → asksCost p ≡ true → i < parameterLen n m k p → i < k

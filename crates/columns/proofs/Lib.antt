@@ -1,7 +1,4 @@
-pub mod Stored
 pub mod Numbers
-pub mod Entries
+pub mod Limit
 pub mod Parameters
 pub mod Causes
-pub mod Entry
-pub mod Answers

@@ -1,36 +1,37 @@
 -- The stores of each parameter at a layout's numbers are those at the network's names. Assumes nothing.
-use Prim.Native.Nat.{ℕ, _+_, _<_}
+use Prim.Native.Nat.{ℕ}
 use mathlib.Core.Path.{_≡_, refl, ap, ap₂}
 use mathlib.Core.List.{List, [], _∷_}
 use lib.ListN.{getD}
 use lib.Ieee.{Float, binary64, nan, mul}
-use Rattle.numbering.specs.Numbering.{rowNumber, columnNumber}
+use Rattle.numbering.specs.Numbering.{rowNumber}
 use Rattle.numbering.specs.Layout.{layoutRow, layoutColumn}
 use Rattle.numbering.specs.declared.SocWrLayout.{SocWrLayout}
-use Rattle.numbering.specs.declared.ColumnName.the-variants.{Pg, W}
+use Rattle.numbering.specs.declared.ColumnName.the-variants.{Pg}
 use Rattle.numbering.specs.declared.RowName.{RowName}
+use Rattle.rows.specs.Rows.{minusOne, constant64}
+use Rattle.kkt.specs.Kkt.{kktRow}
 use Rattle.interface.specs.declared.Power.{Power}
 use Rattle.interface.specs.declared.Bound.{Bound}
 use Rattle.interface.specs.declared.CostTerm.{CostTerm}
-use Rattle.interface.specs.declared.GB.{GB}
-use Rattle.interface.specs.declared.Parameter.the-variants.{Demand, Cost, ShuntAdmittance, VoltageBound, GenBound}
-use Rattle.columns.specs.Laid.{netOf, Laid}
-use Rattle.columns.specs.Stores.{Store, put, plus}
-use Rattle.columns.specs.Jacobian.{minusOne64, kktRow, demandRow, voltageRow, genRow, shuntRow, shuntEntry, dbdp, costSlope, stores}
-use Rattle.columns.specs.Places.{kktIn}
-use Rattle.columns.proofs.Numbers.{nvar-number, demand-number, voltage-number, gen-number, shunt-number}
+use Rattle.interface.specs.declared.Parameter.the-variants.{Demand, Cost, VoltageBound, GenBound}
+use Rattle.solution.specs.Laid.{netOf, Laid}
+use Rattle.elements.specs.Balance.{balanceRow}
+use Rattle.elements.proofs.Balance.{balance-number}
+use Rattle.admittance.specs.Stores.{put}
+use Rattle.admittance.specs.Places.{kktIn}
+use Rattle.admittance.proofs.Numbers.{kkt-number}
+use Rattle.columns.specs.Jacobian.{voltageRow, genRow, dbdp, costSlope, stores}
+use Rattle.columns.proofs.Numbers.{voltage-number, gen-number}
 
 module _ (l : SocWrLayout) (b : List ℕ) (h : Laid l b) (x z : List Float) where
-  kkt-number : (r : RowName) → layoutRow l r ≡ rowNumber (netOf l b) r → kktIn l r ≡ kktRow (netOf l b) r
-  kkt-number r e = ap₂ _+_ (nvar-number l b h) e
-
-  pub demand-same : (power : Power) (i : ℕ) → put (kktIn l (demandRow power i)) minusOne64 ∷ [] ≡ stores (netOf l b) x z (Demand power) i
+  pub demand-same : (power : Power) (i : ℕ) → put (kktIn l (balanceRow power i)) (constant64 minusOne) ∷ [] ≡ stores (netOf l b) x z (Demand power) i
   unfolding stores
-  demand-same power i = ap (λ (at : ℕ). put at minusOne64 ∷ []) (kkt-number (demandRow power i) (demand-number l b power i))
+  demand-same power i = ap (λ (at : ℕ). put at (constant64 minusOne) ∷ []) (kkt-number l b h (balanceRow power i) (balance-number l b power i))
 
   bound-same : (r : RowName) (v : Float) → layoutRow l r ≡ rowNumber (netOf l b) r
       → put (kktIn l r) (mul binary64 (getD z (layoutRow l r) nan) v) ∷ [] ≡ put (kktRow (netOf l b) r) (mul binary64 (getD z (rowNumber (netOf l b) r) nan) v) ∷ []
-  bound-same r v e = ap₂ (λ (at q : ℕ). put at (mul binary64 (getD z q nan) v) ∷ []) (kkt-number r e) e
+  bound-same r v e = ap₂ (λ (at q : ℕ). put at (mul binary64 (getD z q nan) v) ∷ []) (kkt-number l b h r e) e
 
   pub voltage-same : (bound : Bound) (i : ℕ)
       → put (kktIn l (voltageRow bound i)) (mul binary64 (getD z (layoutRow l (voltageRow bound i)) nan) (dbdp bound)) ∷ [] ≡ stores (netOf l b) x z (VoltageBound bound) i
@@ -46,12 +47,3 @@ module _ (l : SocWrLayout) (b : List ℕ) (h : Laid l b) (x z : List Float) wher
       → put (layoutColumn l (Pg g)) (costSlope term (getD x (layoutColumn l (Pg g)) nan)) ∷ [] ≡ stores (netOf l b) x z (Cost term) g
   unfolding stores
   cost-same term g = refl
-
-  pub shunt-same : (gb : GB) (i : ℕ)
-      → plus (kktIn l (shuntRow gb i)) (mul binary64 (shuntEntry gb) (getD x (layoutColumn l (W i)) nan))
-      ∷ plus (layoutColumn l (W i)) (mul binary64 (shuntEntry gb) (getD z (layoutRow l (shuntRow gb i)) nan)) ∷ []
-      ≡ stores (netOf l b) x z (ShuntAdmittance gb) i
-  unfolding stores
-  shunt-same gb i =
-      ap₂ (λ (at q : ℕ). plus at (mul binary64 (shuntEntry gb) (getD x (layoutColumn l (W i)) nan)) ∷ plus (layoutColumn l (W i)) (mul binary64 (shuntEntry gb) (getD z q nan)) ∷ [])
-      (kkt-number (shuntRow gb i) (shunt-number l b gb i)) (shunt-number l b gb i)

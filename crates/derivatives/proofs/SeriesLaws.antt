@@ -18,7 +18,7 @@ use Rattle.rows.specs.Ops.{Ops, whole}
 use Rattle.rows.specs.Rows.{OhmRow, pf, qf, pt, qt, OhmPlace, w, wr, wi, flow, ohm, ohmRow, ohmColumn, Cell, cell, ohmCells, cells}
 use Rattle.interface.specs.declared.GB.{GB}
 use Rattle.interface.specs.declared.GB.the-variants.{Conductance, Susceptance}
-use Rattle.columns.specs.Series.{Slope, series}
+use Rattle.admittance.specs.Series.{Slope, series}
 use Rattle.derivatives.specs.Formal.{formal}
 use Rattle.derivatives.specs.Sums.{code, scaled, row, seriesRow}
 use Rattle.derivatives.specs.Raised.{more, moreSeries}

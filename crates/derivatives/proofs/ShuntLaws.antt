@@ -17,7 +17,7 @@ use Rattle.rows.specs.Ops.{whole}
 use Rattle.rows.specs.Rows.{plain, one, minusOne, Cell, cell, hits, cells}
 use Rattle.interface.specs.declared.GB.{GB}
 use Rattle.interface.specs.declared.GB.the-variants.{Conductance, Susceptance}
-use Rattle.columns.specs.Jacobian.{shuntRow}
+use Rattle.admittance.specs.Admittance.{shuntRow}
 use Rattle.derivatives.specs.Sums.{scaled, sum, row, shuntTimes}
 use Rattle.derivatives.specs.Raised.{changed, moreAt, moreShunt}
 

@@ -11,8 +11,8 @@ use Rattle.numbering.specs.declared.RowName.{RowName}
 use Rattle.rows.specs.Ops.{Ops}
 use Rattle.rows.specs.Rows.{Coefficient, plain, over, constant, one, minusOne, half, minusHalf, Cell, cells, under, OhmRow, pf, qf, pt, qt, ohmColumn}
 use Rattle.interface.specs.declared.GB.{GB}
-use Rattle.columns.specs.Series.{Slope, series}
-use Rattle.columns.specs.Jacobian.{shuntConstant}
+use Rattle.admittance.specs.Series.{Slope, series}
+use Rattle.admittance.specs.Admittance.{shuntConstant}
 
 abbrev pub code : OhmRow → ℕ
 code pf = 0

@@ -33,7 +33,7 @@ use Rattle.lines.specs.Line.{networkIn, Network}
 use Rattle.lines.proofs.Lines.{in-range}
 use Rattle.rows.specs.Program.{inequalities}
 use Rattle.numbering.specs.declared.RowName.the-variants.{Wub}
-use Rattle.entries.specs.Writes.{Given, rowIn}
+use Rattle.complementarity.specs.Writes.{Given, rowIn}
 use Rattle.entries.specs.Answer.{solutionCause, roomCause, Answered, mostOf}
 
 -- accepted counts and records with the layout that is worked out of them

@@ -1,3 +1,2 @@
-pub mod Writes
-pub mod Kinds
+pub mod Parts
 pub mod Answer

@@ -1,10 +1,4 @@
 // The entries of the KKT matrix, written to three lent lists.
-mod blocks;
-mod bounds;
-mod cones;
-mod ohm;
-mod segments;
-mod single;
 mod whole;
 
 use numbering::SocWrLayout;
@@ -23,36 +17,8 @@ ghost use Rattle.numbering.specs.Layout.{InRange};
 ghost use Rattle.kkt.specs.Kkt.{kkt};
 ghost use Rattle.refusals.specs.Refusals.{_orElse_};
 ghost use Rattle.lines.specs.Line.{networkIn, Network};
-ghost use Rattle.entries.specs.Writes.{Given};
+ghost use Rattle.complementarity.specs.Writes.{Given};
 ghost use Rattle.entries.specs.Answer.{solutionCause, roomCause, kktCheck, Answered, mostOf};
-
-// A float for each row of a cone.
-pub struct Quad {
-    pub a: f64,
-    pub b: f64,
-    pub c: f64,
-    pub d: f64,
-}
-
-// The kinds of rows that bound one thing each: a voltage, a dispatch, an angle.
-pub enum Bound {
-    Wub,
-    Wlb,
-    Pgub,
-    Pglb,
-    Qgub,
-    Qglb,
-    Angub,
-    Anglb,
-}
-
-// The kinds of Ohm rows.
-pub enum Flow {
-    Pf,
-    Qf,
-    Pt,
-    Qt,
-}
 
 fn most(l: SocWrLayout) -> usize
     requires { ⌜ InRange l ⌝ }

@@ -1,16 +1,16 @@
 // The parts of the list, each after the other.
-use crate::Bound;
-use crate::Flow;
-use crate::blocks::jabr_rows;
-use crate::blocks::put_quadratic;
-use crate::blocks::thermal_rows;
-use crate::bounds::bound_rows;
-use crate::ohm::ohm_rows;
-use crate::segments::segment_rows;
 use balance::inner::sorted::balance_rows;
+use blocks::Bound;
+use blocks::Flow;
+use blocks::inner::bounds::bound_rows;
+use blocks::inner::cones::jabr_rows;
+use blocks::inner::cones::thermal_rows;
+use blocks::inner::ohm::ohm_rows;
+use blocks::inner::quadratic::put_quadratic;
+use blocks::inner::segments::segment_rows;
 use numbering::SocWrLayout;
 ghost use mathlib.Core.Path.{_≡_};
-ghost use Prim.Native.Nat.{_+_, _*_, _<_, _^_};
+ghost use Prim.Native.Nat.{_+_, _<_, _^_};
 ghost use lib.ListN.{length};
 ghost use Rattle.lists.specs.Out.{out, Wrote};
 ghost use mathlib.Core.List.{map};
@@ -19,7 +19,8 @@ ghost use Rattle.rows.specs.Program.{equalities, inequalities, secondOrder, eve
 ghost use Rattle.kkt.specs.Kkt.{plainRow, kkt};
 ghost use Rattle.lines.specs.Line.{networkIn, Network};
 ghost use Rattle.dealing.specs.Fill.{Ahead, Finished};
-ghost use Rattle.entries.specs.Writes.{Given, rowIn, coneIn, firstBounds, stationarity};
+ghost use Rattle.complementarity.specs.Writes.{Given, rowIn, coneIn};
+ghost use Rattle.entries.specs.Parts.{firstBounds, stationarity};
 
 // The rows of the zero cone.
 fn equality_rows(
@@ -166,7 +167,7 @@ fn first_part(
 }
 
 // The whole list.
-pub fn kkt_list(
+pub(crate) fn kkt_list(
     rows: &mut [u32],
     cols: &mut [u32],
     vals: &mut [f64],
@@ -186,7 +187,7 @@ pub fn kkt_list(
 }
 
 // How many entries the list has: they are written to places that are dropped.
-pub fn kkt_count(l: SocWrLayout, bytes: &[u8], x: &[f64], z: &[f64]) -> usize
+pub(crate) fn kkt_count(l: SocWrLayout, bytes: &[u8], x: &[f64], z: &[f64]) -> usize
     requires { ⌜ Given l (now bytes) (now x) (now z) ⌝ }
     ensures { λ r. ⌜ r ≡ length (kkt (networkIn l (now (bytes .entry))) (now (x .entry)) (now (z .entry))) ⌝ }
 {

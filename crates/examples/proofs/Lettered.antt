@@ -11,8 +11,9 @@ use Rattle.numbering.specs.Lookups.{asked, columnAsked, rowAsked}
 use Rattle.rows.specs.Rows.{kept, terms, b}
 use Rattle.rows.specs.Program.{quadratic, sumOf, slack}
 use Rattle.kkt.specs.Kkt.{kktOf, kkt}
-use Rattle.columns.specs.Stores.{storedAll}
-use Rattle.columns.specs.Jacobian.{inTurn, stores, jacobian}
+use Rattle.admittance.specs.Stores.{storedAll}
+use Rattle.admittance.specs.Admittance.{inTurn}
+use Rattle.columns.specs.Jacobian.{stores, jacobian}
 use Rattle.examples.specs.Networks.{q, curve}
 use Rattle.examples.specs.Table.{letterA, letterB, letterC, letterD, letterE, letterF, letterG, letterH, letterI, letterJ, letterK, table, Right, AllRight}
 

@@ -1,3 +1,4 @@
 pub mod Answers
-pub mod Sens
+pub mod Combinations
 pub mod Scalars
+pub mod Sens

@@ -18,12 +18,12 @@ use Rattle.interface.specs.declared.codes.OperandCode.{OperandCode}
 use Rattle.interface.specs.declared.codes.OperandCode.the-variants as OperandCode
 use Rattle.interface.specs.declared.codes.AxisCode.{AxisCode}
 use Rattle.interface.specs.declared.codes.AxisCode.the-variants as AxisCode
-use Rattle.columns.specs.Selector.{selectedNumber, selectedValue, selectedSign}
-use Rattle.columns.specs.Ids.{elementId, idCheck, idIf, idNumber, idValue}
-use Rattle.columns.specs.declared.Selected.{Selected}
-use Rattle.columns.specs.declared.ElementId.{ElementId}
-use Rattle.columns.specs.declared.ElementId.the-variants.{Constraint}
-use Rattle.columns.specs.declared.IdAnswer.{IdAnswer}
+use Rattle.operands.specs.Selector.{selectedNumber, selectedValue, selectedSign}
+use Rattle.elements.specs.Ids.{elementId, idCheck, idIf, idNumber, idValue}
+use Rattle.operands.specs.declared.Selected.{Selected}
+use Rattle.elements.specs.declared.ElementId.{ElementId}
+use Rattle.elements.specs.declared.ElementId.the-variants.{Constraint}
+use Rattle.elements.specs.declared.IdAnswer.{IdAnswer}
 use Rattle.kernel.specs.declared.Answer.{Answer}
 use Rattle.kernel.specs.declared.sens.Selector.{Selector}
 

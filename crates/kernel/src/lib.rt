@@ -5,10 +5,14 @@ use refusals::number_of;
 use refusals::value_of;
 ghost use mathlib.Core.Path.{_≡_};
 ghost use Rattle.refusals.specs.Refusals.{checkedNumber, checkedValue, writtenNumber, writtenValue};
+ghost use Rattle.reading.specs.Reading.{scalarNumber, scalarValue, scalarResult};
 ghost use Rattle.kernel.specs.Answers.{CheckedAnswer, WrittenAnswer};
+ghost use Rattle.kernel.specs.Scalars.{ScalarAnswer};
 
+pub mod combinations;
 pub mod kkt_matrix;
 pub mod numbers;
+pub mod programs;
 pub mod readings;
 pub mod sens;
 
@@ -78,5 +82,42 @@ pub fn written_answer(w: Written) -> Answer
     Answer {
         number: written_number(w),
         value: written_value(w),
+    }
+}
+
+pub fn scalar_number(a: reading::Scalar) -> u64
+    ensures { λ r. ⌜ r ≡ scalarNumber a ⌝ }
+{
+    match a {
+        reading::Scalar::Value(_) => 0,
+        reading::Scalar::Refused(cause) => number_of(cause),
+    }
+}
+
+pub fn scalar_value(a: reading::Scalar) -> u64
+    ensures { λ r. ⌜ r ≡ scalarValue a ⌝ }
+{
+    match a {
+        reading::Scalar::Value(_) => 0,
+        reading::Scalar::Refused(cause) => value_of(cause),
+    }
+}
+
+pub fn scalar_result(a: reading::Scalar) -> f64
+    ensures { λ r. ⌜ r ≡ scalarResult a ⌝ }
+{
+    match a {
+        reading::Scalar::Value(result) => result,
+        reading::Scalar::Refused(_) => 0.0,
+    }
+}
+
+pub fn scalar_answer(a: reading::Scalar) -> Scalar
+    ensures { λ r. ⌜ ScalarAnswer a r ⌝ }
+{
+    Scalar {
+        number: scalar_number(a),
+        value: scalar_value(a),
+        result: scalar_result(a),
     }
 }

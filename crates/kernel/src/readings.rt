@@ -2,54 +2,16 @@
 use crate::Answer;
 use crate::Scalar;
 use crate::checked_answer;
+use crate::scalar_answer;
 use crate::written_answer;
-use refusals::number_of;
-use refusals::value_of;
 ghost use mathlib.Core.Path.{_≡_};
 ghost use Prim.Native.Nat.{_+_};
 ghost use lib.ListN.{length};
 ghost use Rattle.refusals.specs.Refusals.{writtenIf, leftIn};
 ghost use Rattle.records.specs.Network.{networkOf};
-ghost use Rattle.reading.specs.Reading.{readingCheck, pricesCheck, priceList, codeAnswer, scalarNumber, scalarValue, scalarResult};
+ghost use Rattle.reading.specs.Reading.{readingCheck, pricesCheck, priceList, codeAnswer};
 ghost use Rattle.kernel.specs.Answers.{CheckedAnswer, WrittenAnswer};
 ghost use Rattle.kernel.specs.Scalars.{ScalarAnswer};
-
-fn scalar_number(a: reading::Scalar) -> u64
-    ensures { λ r. ⌜ r ≡ scalarNumber a ⌝ }
-{
-    match a {
-        reading::Scalar::Value(_) => 0,
-        reading::Scalar::Refused(cause) => number_of(cause),
-    }
-}
-
-fn scalar_value(a: reading::Scalar) -> u64
-    ensures { λ r. ⌜ r ≡ scalarValue a ⌝ }
-{
-    match a {
-        reading::Scalar::Value(_) => 0,
-        reading::Scalar::Refused(cause) => value_of(cause),
-    }
-}
-
-fn scalar_result(a: reading::Scalar) -> f64
-    ensures { λ r. ⌜ r ≡ scalarResult a ⌝ }
-{
-    match a {
-        reading::Scalar::Value(result) => result,
-        reading::Scalar::Refused(_) => 0.0,
-    }
-}
-
-fn scalar_answer(a: reading::Scalar) -> Scalar
-    ensures { λ r. ⌜ ScalarAnswer a r ⌝ }
-{
-    Scalar {
-        number: scalar_number(a),
-        value: scalar_value(a),
-        result: scalar_result(a),
-    }
-}
 
 #[no_mangle]
 pub extern "C" fn socwr_reading_check(

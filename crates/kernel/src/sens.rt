@@ -1,9 +1,8 @@
 // Columns by parameter, selectors of operands, lengths and ids.
 use crate::Answer;
 use crate::written_answer;
-use columns::ElementId;
-use columns::IdAnswer;
-use columns::Selected;
+use elements::ElementId;
+use elements::IdAnswer;
 use interface::AxisCode;
 use interface::Operand;
 use interface::OperandCode;
@@ -13,6 +12,7 @@ use interface::VoltageKind;
 use interface::axis_at;
 use interface::operand_at;
 use interface::parameter_at;
+use operands::Selected;
 use refusals::Refusal;
 use refusals::number_of;
 use refusals::or_else;
@@ -24,10 +24,10 @@ ghost use Rattle.refusals.specs.Refusals.{_orElse_, refuseUnless, writtenIf, le
 ghost use Rattle.records.specs.Network.{networkOf};
 ghost use Rattle.interface.specs.Codes.{parameterAt, operandAt, axisAt};
 ghost use Rattle.interface.specs.Selectors.{unitStarts, unitWeights};
-ghost use Rattle.columns.specs.Lengths.{parameterLen, operandLen, parameterLenCheck, operandLenCheck};
+ghost use Rattle.elements.specs.Lengths.{parameterLen, operandLen, parameterLenCheck, operandLenCheck};
 ghost use Rattle.columns.specs.Jacobian.{dim, jacobian, jacobianCheck};
-ghost use Rattle.columns.specs.Selector.{selectedNumber, selectedValue, selectedSign, selectorCheck, selectorRows, selectorElements, selectorSign, selectedIf};
-ghost use Rattle.columns.specs.Ids.{elementValue, idNumber, idValue, idIf};
+ghost use Rattle.operands.specs.Selector.{selectedNumber, selectedValue, selectedSign, selectorCheck, selectorRows, selectorElements, selectorSign, selectedIf};
+ghost use Rattle.elements.specs.Ids.{elementValue, idNumber, idValue, idIf};
 ghost use Rattle.records.specs.Check.{checkOf};
 ghost use Rattle.refusals.specs.declared.Refusal.the-variants.{PastEnd};
 ghost use mathlib.Core.Bool.{false};
@@ -148,7 +148,7 @@ pub extern "C" fn socwr_parameter_len(
     ensures { λ r. ⌜ WrittenAnswer (writtenIf (parameterLenCheck n m k s (now (records .entry)) (parameterNamed (parameterAt parameter))) (parameterLen n m k (parameterNamed (parameterAt parameter)))) r ⌝ }
 {
     let p = parameter_named(parameter);
-    written_answer(columns::parameter_len(
+    written_answer(elements::parameter_len(
         n as usize,
         m as usize,
         k as usize,
@@ -170,7 +170,14 @@ pub extern "C" fn socwr_operand_len(
     ensures { λ r. ⌜ WrittenAnswer (writtenIf (operandLenCheck n m k s (now (records .entry)) (operandNamed (operandAt operand))) (operandLen n m k (operandNamed (operandAt operand)))) r ⌝ }
 {
     let o = operand_named(operand);
-    written_answer(columns::operand_len(n as usize, m as usize, k as usize, s as usize, records, o))
+    written_answer(elements::operand_len(
+        n as usize,
+        m as usize,
+        k as usize,
+        s as usize,
+        records,
+        o,
+    ))
 }
 
 #[no_mangle]
@@ -224,7 +231,7 @@ pub extern "C" fn socwr_operand_selector(
     ensures { λ _. ⌜ now (elements .exit) ≡ leftIn (selectorCheck n m k s (now (records .entry)) (operandNamed (operandAt operand)) (length (now (starts .entry))) (length (now (rows .entry))) (length (now (weights .entry))) (length (now (elements .entry)))) (selectorElements (operandLen n m k (operandNamed (operandAt operand)))) (now (elements .entry)) ⌝ }
 {
     let o = operand_named(operand);
-    selector_answer(columns::operand_selector(
+    selector_answer(operands::operand_selector(
         n as usize,
         m as usize,
         k as usize,
@@ -254,7 +261,7 @@ fn no_axis(
         records::check_records(n, m, k, s, records),
         refuse_unless(false, Refusal::PastEnd(code)),
     );
-    columns::id_if(check, ElementId::Constraint(index as u64))
+    elements::id_if(check, ElementId::Constraint(index as u64))
 }
 
 // The id by an axis that the code names, or by none.
@@ -271,7 +278,7 @@ fn id_at(
     ensures { λ r. ⌜ r ≡ idAt n m k s (now (records .entry)) axis code index ⌝ }
 {
     match axis {
-        AxisCode::Names(axis) => columns::element_id(n, m, k, s, records, axis, index),
+        AxisCode::Names(axis) => elements::element_id(n, m, k, s, records, axis, index),
         AxisCode::NamesNothing => no_axis(n, m, k, s, records, code, index),
     }
 }

@@ -11,13 +11,13 @@ pub mod cones;
 pub mod generators;
 pub mod ohm;
 
-pub fn spot(on: bool, col: u32, val: f64) -> Spot
+pub(crate) fn spot(on: bool, col: u32, val: f64) -> Spot
     ensures { λ r. ⌜ r ≡ spotOf on col val ⌝ }
 {
     Spot { on, col, val }
 }
 
-pub fn single(row: u32, rhs: f64, on: bool, col: u32, val: f64) -> Line
+pub(crate) fn single(row: u32, rhs: f64, on: bool, col: u32, val: f64) -> Line
     ensures { λ r. ⌜ r ≡ singleOf row rhs on col val ⌝ }
 {
     Line {
@@ -32,7 +32,7 @@ pub fn single(row: u32, rhs: f64, on: bool, col: u32, val: f64) -> Line
     }
 }
 
-pub fn line(row: u32, rhs: f64, first: Spot, second: Spot) -> Line
+pub(crate) fn line(row: u32, rhs: f64, first: Spot, second: Spot) -> Line
     ensures { λ r. ⌜ r ≡ lineOf row rhs first second ⌝ }
 {
     Line {
@@ -50,7 +50,7 @@ pub fn wide(x: u32) -> usize
 }
 
 // One of two numbers.
-pub fn pick(first: bool, a: f64, b: f64) -> f64
+pub(crate) fn pick(first: bool, a: f64, b: f64) -> f64
     ensures { λ r. ⌜ r ≡ cond first a b ⌝ }
 {
     if first {

@@ -1,5 +1,5 @@
--- The MATPOWER User's Manual, section 3.6 'Network Equations', at one bus: (3.18) S_bus(V) + S_d - C_g S_g = 0, where by (3.11) and (3.15)
--- to (3.17) S_bus = C_f' S_f + C_t' S_t + [V] conj([Y_sh] V). Connection matrices hold ones and zeros (section 3.1 'Data Formats').
+-- The MATPOWER User's Manual, section 3.6 'Network Equations', at one bus: the power balance S_bus(V) + S_d - C_g S_g = 0, where by the
+-- definitions of Ybus, S_bus, S_f and S_t there S_bus = C_f' S_f + C_t' S_t + [V] conj([Y_sh] V). Connection matrices hold ones and zeros (section 3.1 'Data Formats').
 use Prim.Native.Nat.{ℕ, zero, suc}
 use mathlib.Core.Bool.{cond}
 use lib.Dec.{eqb}
@@ -38,7 +38,7 @@ module _ {A : Type 0} (o : Ops A) where
   abbrev pub complexJoins : (ℕ → ℕ) → ℕ → ℕ → (ℕ → Complex A) → Complex A
   complexJoins s i n f = record { re = joins s i n (λ j. f j .re); im = joins s i n (λ j. f j .im) }
 
-  -- (3.18) at a bus, of Cf' Sf, Ct' St, ysh, |v|², Sd and Cg Sg; v conj(ysh v) is conj(ysh) |v|² (`shunt-law`)
+  -- the power balance at a bus, of Cf' Sf, Ct' St, ysh, |v|², Sd and Cg Sg; v conj(ysh v) is conj(ysh) |v|² (`shunt-law`)
   abbrev pub balance : Complex A → Complex A → Complex A → A → Complex A → Complex A → Complex A
   balance f t ysh v2 sd sg = f ⊞ t ⊞ conj o ysh ⊠ real o v2 ⊞ sd ⊞ minus o sg
 

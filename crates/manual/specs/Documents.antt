@@ -33,13 +33,13 @@ pub record Symmetric (t : Branch ℤ) : Type 0 where
 pub record FromManual (G : AcNetwork ℤ) (x : ColumnName → ℤ) : Type 0 where
   -- (3.2): the multiplied-out Ybr is the manual's, where |τ e^(jθ)|² is τ²
   pub ybr : (l : Line ℤ) → square whole (tap whole l) ≡ l .tm2 → (e : Entry) → left whole l e ≡ right whole l e
-  -- (3.16), (3.17): S_f and S_t of the voltages, and of w_f = |v_f|², w_t = |v_t|² and c = v_f conj(v_t)
+  -- section 3.6: S_f and S_t of the voltages, and of w_f = |v_f|², w_t = |v_t|² and c = v_f conj(v_t)
   pub powers : (l : Line ℤ) (vf vt : Complex ℤ) (r : OhmRow) → fromW whole l vf vt r ≡ fromV whole l vf vt r
   -- an Ohm row's s, times 2 τ²: the manual's flow less the flow's column
   pub ohm : (e : ℕ) (r : OhmRow) → Symmetric (G .branch e) → slack whole G x (ohmRow r e) ≡ less whole (lineOf whole (G .branch e)) (pointAt G x e) r
-  -- (3.15): a shunt's power
+  -- section 3.6: a shunt's power
   pub shunt : (ysh v : Complex ℤ) → _⊗_ whole v (conj whole (_⊗_ whole ysh v)) ≡ _⊗_ whole (conj whole ysh) (real whole (square whole v))
-  -- (3.18): a balance row's s, times 2, is the mismatch, twice
+  -- section 3.6: a balance row's s, times 2, is the mismatch, twice
   pub active : (i : ℕ) → slack whole G x (Pbal i) ≡ pos 2 *ℤ mismatch whole G x i .re
   pub reactive : (i : ℕ) → slack whole G x (Qbal i) ≡ pos 2 *ℤ mismatch whole G x i .im
 

@@ -2,7 +2,7 @@
 --   (3.1)  [i_f; i_t] = Ybr [v_f; v_t]
 --   (3.2)  Ybr = [ (ys + j bc/2) / τ²   -ys / (τ e^(-jθ)) ]
 --                [ -ys / (τ e^(jθ))     ys + j bc/2       ]
--- and section 3.6 'Network Equations', for one branch: (3.16) S_f = v_f conj(i_f), (3.17) S_t = v_t conj(i_t).
+-- and section 3.6 'Network Equations', for one branch: S_f = v_f conj(i_f), S_t = v_t conj(i_t).
 use Rattle.rows.specs.Ops.{Ops}
 
 pub record Complex (A : Type 0) : Type 0 where
@@ -105,7 +105,7 @@ module _ {A : Type 0} (o : Ops A) where
     abbrev pub mtt : Complex A
     mtt = real (l .tm2) ⊗ ends
 
-    -- 2 τ² times (3.16) and (3.17), with the currents of (3.1)
+    -- 2 τ² times S_f and S_t, with the currents of (3.1)
     abbrev pub sf : Complex A → Complex A → Complex A
     sf vf vt = vf ⊗ conj (mff ⊗ vf ⊕ mft ⊗ vt)
 

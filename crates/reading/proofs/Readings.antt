@@ -4,61 +4,34 @@ use mathlib.Core.Path.{_≡_, refl, sym, _∙_, ap, ap₂, subst}
 use mathlib.Core.Bool.{Bool, true, false}
 use mathlib.Core.List.{List, [], _∷_, _++_}
 use native.Mathlib.Omega.{arith}
-use borrow.Author.Tests.{eqb-true, leb-true, lt-ltb, le-ltb}
-use lib.Dec.{T, eqb, ltb}
+use borrow.Author.Tests.{leb-true, lt-ltb, le-ltb}
+use lib.Dec.{T, ltb}
 use lib.ListN.{length, take, drop, getD, length-take, length-drop}
 use lib.Seq.{ext-getD, getD-take, getD-drop}
 use lib.Ieee.{Float, nan, neg}
-use Rattle.lists.specs.UpTo.{sum, listed, overlay}
+use Rattle.lists.specs.UpTo.{listed, overlay}
 use Rattle.lists.proofs.Each.{each-ext}
 use Rattle.lists.proofs.Listed.{listed-length, listed-at}
 use Rattle.refusals.specs.Refusals.{_orElse_, isRefused, refuseUnless, leftIn}
 use Rattle.refusals.specs.declared.Checked.{Checked}
 use Rattle.refusals.specs.declared.Checked.the-variants.{Accepted, Refused}
-use Rattle.refusals.specs.declared.Refusal.{Refusal}
-use Rattle.refusals.specs.declared.Refusal.the-variants.{SolutionLength, PastEnd}
+use Rattle.refusals.specs.declared.Refusal.the-variants.{PastEnd}
 use Rattle.refusals.proofs.Laws.{passed, orElse-accepted, test-held, left-written}
 use Rattle.records.specs.AcNetwork.{AcNetwork}
 use Rattle.records.specs.Network.{networkOf}
 use Rattle.records.specs.Network as Network
 use Rattle.records.specs.Check.{checkOf}
 use Rattle.records.proofs.Laws.{accepted}
-use Rattle.numbering.specs.Blocks.{total}
-use Rattle.numbering.specs.Numbering.{nvar, ncon, columnNumber}
-use Rattle.numbering.specs.Layout.{layoutOf, layoutColumns, layoutRows}
-use Rattle.numbering.specs.declared.SocWrLayout.{SocWrLayout}
-use Rattle.numbering.proofs.Layouts.{nvar-layout, ncon-layout}
-use Rattle.reading.specs.Reading.{xCause, zCause, partColumn, partCount, partList, partIf, partCheck, partOf, pricesCheck, priceList, scalarIf, objectiveOf, objectiveAt}
+use Rattle.numbering.specs.Numbering.{nvar, columnNumber}
+use Rattle.solution.proofs.Lengths.{x-long, z-long}
+use Rattle.reading.specs.Reading.{partColumn, partCount, partList, partIf, partCheck, partOf, pricesCheck, priceList, scalarIf, objectiveOf, objectiveAt}
 use Rattle.reading.specs.declared.SolutionList.{SolutionList}
 use Rattle.reading.specs.declared.SolutionList.the-variants as SolutionList
 use Rattle.reading.specs.declared.PreparedObjective.the-variants.{Other}
 use Rattle.reading.specs.declared.Scalar.{Scalar}
 use Rattle.reading.specs.declared.Scalar.the-variants as Scalar
 
--- ---- the lengths, from a layout
-module _ (G : AcNetwork Float) (l : SocWrLayout) (e : l ≡ layoutOf G) where
-  pub x-length : (x : List Float) (v : ℕ) → v ≡ total (layoutColumns l) → refuseUnless (eqb (length x) v) (SolutionLength 0) ≡ xCause G x
-  unfolding xCause
-  x-length x v f =
-      let h : v ≡ nvar G = f ∙ ap (λ (l : SocWrLayout). total (layoutColumns l)) e ∙ nvar-layout G in
-      rw h
-
-  pub z-length : sum (G .k) (G .segments) ≡ G .s → (z : List Float) (v : ℕ) → v ≡ total (layoutRows l)
-      → refuseUnless (eqb (length z) v) (SolutionLength 1) ≡ zCause G z
-  unfolding zCause
-  z-length add z v f =
-      let h : v ≡ ncon G = f ∙ ap (λ (l : SocWrLayout). total (layoutRows l)) e ∙ ncon-layout G add in
-      rw h
-
 -- ---- what an accepted reading has
-pub long-enough : (G : AcNetwork Float) (x : List Float) → xCause G x ≡ Accepted → length x ≡ nvar G
-unfolding xCause
-long-enough G x h = eqb-true _ _ (test-held _ _ h)
-
-pub duals-enough : (G : AcNetwork Float) (z : List Float) → zCause G z ≡ Accepted → length z ≡ ncon G
-unfolding zCause
-duals-enough G z h = eqb-true _ _ (test-held _ _ h)
-
 module _ (n m k s : ℕ) (b : List ℕ) where
   abbrev G : AcNetwork Float
   G = networkOf n m k s b
@@ -71,7 +44,7 @@ module _ (n m k s : ℕ) (b : List ℕ) where
   unfolding partCheck
   part-went x {r} e h =
       let p = orElse-accepted _ _ (sym e ∙ passed r h) in
-      (accepted n m k s b (p .0), long-enough G x (p .1))
+      (accepted n m k s b (p .0), x-long G (length x) (p .1))
 
 -- ---- a part of x
 no-part : (r : Checked) (xs : List Float) → isRefused r ≡ true → _≡_ {A = List Float} [] (partIf r xs)
@@ -137,7 +110,7 @@ module _ (n m k s : ℕ) (b : List ℕ) where
   prices-went z room h =
       let p = orElse-accepted _ _ h in
       let q = orElse-accepted _ _ (p .1) in
-      (accepted n m k s b (p .0), omega (arith, duals-enough (networkOf n m k s b) z (q .0)), leb-true _ _ (test-held _ _ (q .1)))
+      (accepted n m k s b (p .0), omega (arith, z-long (networkOf n m k s b) (length z) (q .0)), leb-true _ _ (test-held _ _ (q .1)))
 
   price-list : (z : List Float) → listed n (λ i. neg (getD z i nan)) ++ listed n (λ i. neg (getD z (n + i) nan)) ≡ priceList (networkOf n m k s b) z
   unfolding priceList

@@ -1,22 +1,23 @@
 -- `read_socwr` of problem/conic.rs: the lists of x, the prices and the objective.
 use Prim.Native.Nat.{ℕ, zero, suc, _+_}
 use mathlib.Core.List.{List, [], _++_}
-use lib.Dec.{eqb, ltb}
+use lib.Dec.{ltb}
 use lib.ListN.{length, getD}
 use lib.Ieee.{Float, nan, neg}
 use Rattle.lists.specs.UpTo.{listed}
 use Rattle.refusals.specs.Refusals.{_orElse_, refuseUnless, roomFor, numberOf, valueOf}
 use Rattle.refusals.specs.declared.Checked.{Checked}
 use Rattle.refusals.specs.declared.Checked.the-variants.{Accepted, Refused}
-use Rattle.refusals.specs.declared.Refusal.the-variants.{SolutionLength, PastEnd}
+use Rattle.refusals.specs.declared.Refusal.the-variants.{PastEnd}
 use Rattle.records.specs.AcNetwork.{AcNetwork}
 use Rattle.records.specs.Network.{networkOf}
 use Rattle.records.specs.Check.{checkOf}
-use Rattle.numbering.specs.Numbering.{nvar, ncon, columnNumber, rowNumber}
+use Rattle.numbering.specs.Numbering.{columnNumber, rowNumber}
 use Rattle.numbering.specs.declared.ColumnName.{ColumnName}
 use Rattle.numbering.specs.declared.ColumnName.the-variants.{Pg, Qg, W, Wr, Wi, Pf, Pt, Qf, Qt}
 use Rattle.numbering.specs.declared.RowName.the-variants.{Pbal, Qbal}
 use Rattle.rows.specs.Rows.{zero64}
+use Rattle.solution.specs.Lengths.{xCause, zCause, solutionCause}
 use Rattle.reading.specs.Cost.{totalCost}
 use Rattle.reading.specs.declared.PreparedObjective.{PreparedObjective}
 use Rattle.reading.specs.declared.PreparedObjective.the-variants.{Feasibility, NetworkGeneratorCost, Other}
@@ -49,13 +50,6 @@ partCount n m k SolutionList.Qf = m
 partCount n m k SolutionList.Qt = m
 
 module _ (G : AcNetwork Float) where
-  -- 6: "x not nvar long, or z not ncon long", "0 for x, else 1"
-  unfoldable pub xCause : List Float → Checked
-  xCause x = refuseUnless (eqb (length x) (nvar G)) (SolutionLength 0)
-
-  unfoldable pub zCause : List Float → Checked
-  zCause z = refuseUnless (eqb (length z) (ncon G)) (SolutionLength 1)
-
   -- as `pg: (0..k).map(|g| x[lay.col_pg(g)])`
   unfoldable pub partList : List Float → SolutionList → List Float
   partList x p = listed (partCount (G .n) (G .m) (G .k) p) (λ i. getD x (columnNumber G (partColumn p i)) nan)
@@ -89,11 +83,11 @@ scalarIf (Refused cause) v = Scalar.Refused cause
 module _ (n m k s : ℕ) (b : List ℕ) where
   -- "a separate check says whether it was refused"
   unfoldable pub readingCheck : List Float → List Float → Checked
-  readingCheck x z = checkOf n m k s b orElse xCause (networkOf n m k s b) x orElse zCause (networkOf n m k s b) z
+  readingCheck x z = checkOf n m k s b orElse solutionCause (networkOf n m k s b) (length x) (length z)
 
   -- a part, or the objective, is handed x and no z
   unfoldable pub partCheck : List Float → Checked
-  partCheck x = checkOf n m k s b orElse xCause (networkOf n m k s b) x
+  partCheck x = checkOf n m k s b orElse xCause (networkOf n m k s b) (length x)
 
   unfoldable pub partOf : List Float → SolutionList → List Float
   partOf x p = partIf (partCheck x) (partList (networkOf n m k s b) x p)
@@ -101,7 +95,7 @@ module _ (n m k s : ℕ) (b : List ℕ) where
   -- 10: "an output slice too short", of the length needed, 2n
   unfoldable pub pricesCheck : List Float → ℕ → Checked
   pricesCheck z room =
-      checkOf n m k s b orElse zCause (networkOf n m k s b) z orElse roomFor (n + n) room
+      checkOf n m k s b orElse zCause (networkOf n m k s b) (length z) orElse roomFor (n + n) room
 
   unfoldable pub objectiveAnswer : PreparedObjective → List Float → Float → Scalar
   objectiveAnswer objective x solver = scalarIf (partCheck x) (objectiveOf (networkOf n m k s b) objective x solver)

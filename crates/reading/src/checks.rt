@@ -1,8 +1,10 @@
 // Whether a reading is refused.
-use crate::inner::lengths;
+use numbering::inner::layout;
 use records::check_records;
 use refusals::Checked;
 use refusals::is_refused;
+use solution::inner::solution_cause;
+use solution::inner::x_cause;
 ghost use mathlib.Core.Path.{_≡_};
 ghost use Rattle.reading.specs.Reading.{partCheck, readingCheck};
 
@@ -22,7 +24,8 @@ pub fn reading_check(
     if is_refused(records) {
         return records;
     }
-    lengths::solution_cause(n, m, k, s, bytes, x, z)
+    let l = layout(n, m, k, s, bytes);
+    solution_cause(l, bytes, x.len(), z.len())
 }
 
 // The same without z: what refuses a part of x.
@@ -33,5 +36,6 @@ pub fn part_check(n: usize, m: usize, k: usize, s: usize, bytes: &[u8], x: &[f64
     if is_refused(records) {
         return records;
     }
-    lengths::x_cause(n, m, k, s, bytes, x)
+    let l = layout(n, m, k, s, bytes);
+    x_cause(l, bytes, x.len())
 }

@@ -1,4 +1,3 @@
 // What the entries do once their checks have passed.
 pub mod cost;
 pub mod fill;
-pub mod lengths;

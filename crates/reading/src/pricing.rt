@@ -1,6 +1,6 @@
 // The prices of a solution.
 use crate::inner::fill;
-use crate::inner::lengths;
+use numbering::inner::layout;
 use records::check_records;
 use refusals::Checked;
 use refusals::Written;
@@ -8,6 +8,7 @@ use refusals::is_refused;
 use refusals::or_else;
 use refusals::room_for;
 use refusals::written_if;
+use solution::inner::z_cause;
 ghost use mathlib.Core.Path.{_≡_};
 ghost use Prim.Native.Nat.{_+_};
 ghost use lib.ListN.{length};
@@ -31,7 +32,8 @@ fn prices_check(
         return records;
     }
     let need = n + n;
-    or_else(lengths::z_cause(n, m, k, s, bytes, z), room_for(need, room))
+    let l = layout(n, m, k, s, bytes);
+    or_else(z_cause(l, bytes, z.len()), room_for(need, room))
 }
 
 // The active prices to the first n places, the reactive prices to the next n.

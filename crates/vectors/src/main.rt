@@ -1,4 +1,7 @@
 // Replays the kept answers of the Rust (docs/VECTORS.md) and says how many agree.
+mod agree;
+mod answers;
+mod calls;
 mod input;
 mod networks;
 mod parts;
@@ -10,6 +13,9 @@ use tally::Tally;
 fn case(kind: u64, t: Tally) -> Tally {
     if kind == 1 {
         return networks::network(t.case());
+    }
+    if kind == 2 {
+        return calls::call(t.case());
     }
     t.ended()
 }

@@ -79,8 +79,8 @@ fn wide(x: u32) -> u64 {
     x as u64
 }
 
-fn element(list: &[u32; 64], at: u64) -> u64 {
-    if at < 64 {
+fn element(list: &[u32; 1024], at: u64) -> u64 {
+    if at < 1024 {
         return wide(list[at as usize]);
     }
     0

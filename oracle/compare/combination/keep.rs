@@ -4,17 +4,14 @@ use super::combine;
 use super::lists::{lengths, Entries, Items};
 use super::matrix;
 use super::residual;
-use super::scale::{operands, parameters};
 use super::transpose;
+use crate::codes::{named, OPERANDS, PARAMETERS};
 use crate::keep::{Counts, Words};
+use crate::left::{bits, left, Left};
 use crate::random::Random;
 use plain::{refused, Refused};
 use tellegen::faer::Mat;
 use tellegen::sens::{max_abs, served_unit_scale, Selector};
-
-/// What an output holds before the call.
-const BLANK: u32 = 0xa5a5_0000;
-const BLANK_FLOAT: f64 = -1234.5;
 
 /// One call: the entry, its numbers and its float, two lists of numbers and three of floats to read.
 #[derive(Default)]
@@ -26,66 +23,29 @@ struct Call {
     floats: [Vec<f64>; 3],
 }
 
-/// What it leaves: number, value and result, three lists of numbers and one of floats.
-struct Left {
-    number: u64,
-    value: u64,
-    result: f64,
-    written: [Vec<u32>; 3],
-    floats: Vec<f64>,
-}
-
-/// The front of `length` blank elements overwritten.
-fn over<T: Copy>(list: &[T], length: usize, blank: T) -> Vec<T> {
-    let mut all = vec![blank; length];
-    all[..list.len()].copy_from_slice(list);
-    all
-}
-
-/// What is left where `lent` elements are lent and these lists are the answer, of `value` elements.
-fn left(lent: [usize; 4], found: Result<(u64, [&[u32]; 3], &[f64]), Refused>) -> Left {
-    let (number, value, lists, floats) = match found {
-        Ok((value, lists, floats)) => (0, value, lists, floats),
-        Err(Refused { number, value }) => (number, value, [&[][..]; 3], &[][..]),
-    };
-    let written = [0, 1, 2].map(|i| over(lists[i], lent[i], BLANK));
-    Left { number, value, result: 0.0, written, floats: over(floats, lent[3], BLANK_FLOAT) }
-}
-
-/// A float as its bits; every NaN as one.
-fn bits(x: f64) -> u64 {
-    if x.is_nan() {
-        f64::NAN.to_bits()
-    } else {
-        x.to_bits()
-    }
-}
-
 fn put(words: &mut Words, call: &Call, left: &Left) {
     words.words(&[2, call.entry]);
+    // No network.
+    words.words(&[0; 5]);
     words.words(&call.numbers);
     words.word(bits(call.float));
     call.read.iter().for_each(|list| words.word(list.len() as u64));
     call.floats.iter().for_each(|list| words.word(list.len() as u64));
-    left.written.iter().for_each(|list| words.word(list.len() as u64));
-    words.word(left.floats.len() as u64);
-    words.words(&[left.number, left.value, bits(left.result)]);
+    left.put_head(words);
     call.read.iter().flatten().for_each(|&x| words.word(x as u64));
     call.floats.iter().flatten().for_each(|&x| words.word(bits(x)));
-    left.written.iter().flatten().for_each(|&x| words.word(x as u64));
-    left.floats.iter().for_each(|&x| words.word(bits(x)));
+    left.put_lists(words);
 }
 
 fn unit_scale(random: &mut Random) -> (Call, Left) {
     let (o, p) = (random.below(15), random.below(21));
     let base = if random.once_in(3) { 4.0 } else { random.float() };
-    let pair = (operands().get(o as usize).copied(), parameters().get(p as usize).copied());
-    let (number, result) = match pair {
+    let (number, result) = match (named(&OPERANDS, o), named(&PARAMETERS, p)) {
         (Some(o), Some(p)) => (0, served_unit_scale(o, p, base)),
         _ => (9, 0.0),
     };
     let call = Call { entry: 0, numbers: [o, p, 0], float: base, ..Call::default() };
-    (call, Left { number, value: 0, result, written: [vec![], vec![], vec![]], floats: vec![] })
+    (call, Left { number, result, ..Left::default() })
 }
 
 fn selector_new(random: &mut Random) -> (Call, Left) {
@@ -124,7 +84,7 @@ fn largest(random: &mut Random) -> (Call, Left) {
     let list = random.floats(length);
     let result = max_abs(&Mat::from_columns(length, 1, list.clone()));
     let call = Call { entry: 2, floats: [list, vec![], vec![]], ..Call::default() };
-    (call, Left { number: 0, value: 0, result, written: [vec![], vec![], vec![]], floats: vec![] })
+    (call, Left { result, ..Left::default() })
 }
 
 /// A list of floats where `length` are lent.

@@ -1,13 +1,14 @@
 //! Records and numbering.
 
-mod damage;
+pub mod damage;
 mod expect;
 mod ground;
 mod keep;
 mod network;
 mod numbering;
-mod shapes;
+pub mod shapes;
 mod wanted;
 
 pub use ground::compare;
 pub use keep::write as keep;
+pub use network::{Branch, Generator, Network, Shape};

@@ -22,7 +22,7 @@ ghost use Rattle.rows.specs.Rows.{constant64};
 ghost use Rattle.lines.specs.Line.{networkIn, Network};
 ghost use Rattle.balance.specs.Ends.{endCount, endBus, endColumn, endConstant, selfValue};
 
-pub fn count_at(l: SocWrLayout, end: End) -> usize
+pub(crate) fn count_at(l: SocWrLayout, end: End) -> usize
     ensures { λ r. ⌜ r ≡ endCount l end ⌝ }
 {
     match end {
@@ -33,7 +33,7 @@ pub fn count_at(l: SocWrLayout, end: End) -> usize
 }
 
 // The bus of end j.
-pub fn bus_at(l: SocWrLayout, bytes: &[u8], end: End, j: usize) -> usize
+pub(crate) fn bus_at(l: SocWrLayout, bytes: &[u8], end: End, j: usize) -> usize
     requires { ⌜ Network l (now bytes) ⌝ }
     requires { ⌜ j < endCount l end ⌝ }
     ensures { λ r. ⌜ r ≡ endBus (networkIn l (now (bytes .entry))) end j ⌝ }
@@ -70,7 +70,7 @@ fn reactive_column(l: SocWrLayout, end: End, j: usize) -> u32
 }
 
 // The column of end j in the active or the reactive balance rows.
-pub fn column_at(l: SocWrLayout, q: bool, end: End, j: usize) -> u32
+pub(crate) fn column_at(l: SocWrLayout, q: bool, end: End, j: usize) -> u32
     requires { ⌜ InRange l ⌝ }
     requires { ⌜ j < endCount l end ⌝ }
     ensures { λ r. ⌜ r ≡ layoutColumn l (endColumn q end j) ⌝ }
@@ -81,7 +81,7 @@ pub fn column_at(l: SocWrLayout, q: bool, end: End, j: usize) -> u32
     active_column(l, end, j)
 }
 
-pub fn value_at(end: End) -> f64
+pub(crate) fn value_at(end: End) -> f64
     ensures { λ r. ⌜ r ≡ constant64 (endConstant end) ⌝ }
 {
     match end {
@@ -92,7 +92,7 @@ pub fn value_at(end: End) -> f64
 }
 
 // The coefficient of the bus's own w.
-pub fn self_value(l: SocWrLayout, bytes: &[u8], q: bool, i: usize) -> f64
+pub(crate) fn self_value(l: SocWrLayout, bytes: &[u8], q: bool, i: usize) -> f64
     requires { ⌜ Network l (now bytes) ⌝ }
     requires { ⌜ i < l .n ⌝ }
     ensures { λ r. ⌜ r ≡ selfValue (networkIn l (now (bytes .entry))) q i ⌝ }

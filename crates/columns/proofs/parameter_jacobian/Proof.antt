@@ -7,7 +7,8 @@ use Rattle.refusals.specs.declared.Checked.the-variants.{Accepted}
 use Rattle.refusals.proofs.Laws.{accepted-by, refused-by}
 use Rattle.records.specs.Check.{checkOf}
 use Rattle.records.proofs.Laws.{accepted}
-use Rattle.columns.proofs.Entry.{laid, answer-first, left-first, then-second}
+use Rattle.solution.proofs.Laid.{laid}
+use Rattle.solution.proofs.Entry.{answer-first, left-first, then-second}
 use Rattle.columns.proofs.parameter_jacobian.Statement.{statement}
 use Rattle.columns.proofs.parameter_jacobian.Tie as tie
 
@@ -20,7 +21,7 @@ layout-requires : tie.Need-layout-requires
 layout-requires c κs = accepted _ _ _ _ _ (accepted-by (c .before .before .check-records .ensures) (c .before .is-refused .ensures) (c .if1 .left))
 
 column-of-requires : tie.Need-column-of-requires
-column-of-requires c κs = laid _ _ _ _ _ (accepted-by (c .before .before .before .before .check-records .ensures) (c .before .before .before .is-refused .ensures) (c .before .before .if1 .left)) (c .before .layout .ensures)
+column-of-requires c κs = laid _ _ _ _ _ (accepted _ _ _ _ _ (accepted-by (c .before .before .before .before .check-records .ensures) (c .before .before .before .is-refused .ensures) (c .before .before .if1 .left))) (c .before .layout .ensures)
 
 returns-2 : tie.Need-returns-2
 returns-2 c =

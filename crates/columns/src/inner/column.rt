@@ -1,14 +1,14 @@
 // One column of the KKT system by a parameter.
-use crate::inner::lengths::asks_cost;
-use crate::inner::lengths::has_parameter;
-use crate::inner::lengths::parameter_count;
 use crate::inner::limit::line_limit;
 use crate::inner::plain::cost;
 use crate::inner::plain::demand;
 use crate::inner::plain::gen_bound;
-use crate::inner::plain::shunt;
 use crate::inner::plain::voltage_bound;
-use crate::inner::series::series_admittance;
+use admittance::inner::series::series_admittance;
+use admittance::inner::shunt::shunt;
+use elements::inner::lengths::asks_cost;
+use elements::inner::lengths::has_parameter;
+use elements::inner::lengths::parameter_count;
 use interface::Parameter;
 use lists::inner::fill_f64;
 use numbering::SocWrLayout;
@@ -24,14 +24,15 @@ use refusals::or_else;
 use refusals::refuse_unless;
 use refusals::room_for;
 use refusals::written_if;
+use solution::inner::solution_cause;
 ghost use mathlib.Core.Path.{_≡_};
 ghost use Prim.Native.Nat.{_<_};
 ghost use lib.ListN.{length};
 ghost use Rattle.refusals.specs.Refusals.{writtenIf, leftIn};
-ghost use Rattle.columns.specs.Laid.{netOf, Laid};
-ghost use Rattle.columns.specs.Stores.{storedAll};
-ghost use Rattle.columns.specs.Lengths.{parameterLen};
-ghost use Rattle.columns.specs.Jacobian.{stores, dim, jacobian, solutionCause, piecewiseCause, parameterCause, columnCause};
+ghost use Rattle.solution.specs.Laid.{netOf, Laid};
+ghost use Rattle.elements.specs.Lengths.{parameterLen};
+ghost use Rattle.admittance.specs.Stores.{storedAll};
+ghost use Rattle.columns.specs.Jacobian.{stores, dim, jacobian, piecewiseCause, parameterCause, columnCause};
 
 // The stores of a column.
 fn write(
@@ -67,17 +68,6 @@ fn dim(l: SocWrLayout, bytes: &[u8]) -> usize
     ensures { λ r. ⌜ r ≡ dim (netOf l (now (bytes .entry))) ⌝ }
 {
     nvar(l) as usize + ncon(l) as usize
-}
-
-// 6.
-pub fn solution_cause(l: SocWrLayout, bytes: &[u8], xs: usize, zs: usize) -> Checked
-    requires { ⌜ Laid l (now bytes) ⌝ }
-    ensures { λ r. ⌜ r ≡ solutionCause (netOf l (now (bytes .entry))) xs zs ⌝ }
-{
-    or_else(
-        refuse_unless(xs == nvar(l) as usize, Refusal::SolutionLength(0)),
-        refuse_unless(zs == ncon(l) as usize, Refusal::SolutionLength(1)),
-    )
 }
 
 // 8.

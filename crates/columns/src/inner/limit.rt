@@ -1,5 +1,5 @@
 // The column of a branch's limit.
-use crate::inner::stores::value;
+use admittance::inner::stores::value;
 use lists::inner::store_f64;
 use numbering::SocWrLayout;
 use numbering::Tally;
@@ -15,8 +15,8 @@ ghost use lib.Ieee.{nan};
 ghost use Rattle.lists.specs.UpTo.{each};
 ghost use Rattle.numbering.specs.Numbering.{rowNumber};
 ghost use Rattle.numbering.specs.declared.RowName.the-variants.{Thermal};
-ghost use Rattle.columns.specs.Stores.{put, storedAll};
-ghost use Rattle.columns.specs.Laid.{netOf, Laid};
+ghost use Rattle.admittance.specs.Stores.{put, storedAll};
+ghost use Rattle.solution.specs.Laid.{netOf, Laid};
 ghost use Rattle.columns.specs.Jacobian.{limitStores};
 
 // z at six rows from the base on.

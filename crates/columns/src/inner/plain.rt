@@ -1,19 +1,15 @@
-// The columns that need the layout alone: demand, bounds, cost and shunt.
-use crate::inner::stores::land;
-use crate::inner::stores::value;
+// The columns that need the layout alone: demand, bounds and cost.
+use admittance::inner::stores::value;
+use elements::inner::power::balance_row;
 use interface::Bound;
 use interface::CostTerm;
-use interface::GB;
 use interface::Power;
 use lists::inner::store_f64;
 use numbering::SocWrLayout;
 use numbering::inner::col_pg;
-use numbering::inner::col_w;
 use numbering::inner::nvar;
-use numbering::inner::r_pbal;
 use numbering::inner::r_pglb;
 use numbering::inner::r_pgub;
-use numbering::inner::r_qbal;
 use numbering::inner::r_qglb;
 use numbering::inner::r_qgub;
 use numbering::inner::r_wlb;
@@ -24,21 +20,12 @@ ghost use Prim.Native.Nat.{_+_, _<_};
 ghost use lib.ListN.{getD};
 ghost use lib.Ieee.{binary64, nan, mul};
 ghost use Rattle.numbering.specs.Layout.{InRange, layoutColumn, layoutRow};
-ghost use Rattle.numbering.specs.declared.ColumnName.the-variants.{Pg, W};
-ghost use Rattle.columns.specs.Stores.{put, plus, storedAll};
-ghost use Rattle.columns.specs.Jacobian.{minusOne64, demandRow, voltageRow, genRow, dbdp, costSlope, shuntRow, shuntEntry};
-ghost use Rattle.columns.specs.Places.{kktIn};
-
-pub fn demand_row(l: SocWrLayout, power: Power, i: usize) -> u32
-    requires { ⌜ InRange l ⌝ }
-    requires { ⌜ i < l .n ⌝ }
-    ensures { λ r. ⌜ r ≡ layoutRow l (demandRow power i) ⌝ }
-{
-    match power {
-        Power::Active => r_pbal(l, i),
-        Power::Reactive => r_qbal(l, i),
-    }
-}
+ghost use Rattle.numbering.specs.declared.ColumnName.the-variants.{Pg};
+ghost use Rattle.rows.specs.Rows.{minusOne, constant64};
+ghost use Rattle.elements.specs.Balance.{balanceRow};
+ghost use Rattle.admittance.specs.Stores.{put, storedAll};
+ghost use Rattle.admittance.specs.Places.{kktIn};
+ghost use Rattle.columns.specs.Jacobian.{voltageRow, genRow, dbdp, costSlope};
 
 fn voltage_row(l: SocWrLayout, bound: Bound, i: usize) -> u32
     requires { ⌜ InRange l ⌝ }
@@ -102,32 +89,12 @@ fn cost_slope(term: CostTerm, pg: f64) -> f64
     }
 }
 
-fn shunt_row(l: SocWrLayout, gb: GB, i: usize) -> u32
-    requires { ⌜ InRange l ⌝ }
-    requires { ⌜ i < l .n ⌝ }
-    ensures { λ r. ⌜ r ≡ layoutRow l (shuntRow gb i) ⌝ }
-{
-    match gb {
-        GB::Conductance => r_pbal(l, i),
-        GB::Susceptance => r_qbal(l, i),
-    }
-}
-
-fn shunt_entry(gb: GB) -> f64
-    ensures { λ r. ⌜ r ≡ shuntEntry gb ⌝ }
-{
-    match gb {
-        GB::Conductance => -1.0,
-        GB::Susceptance => 1.0,
-    }
-}
-
 pub fn demand(l: SocWrLayout, power: Power, i: usize, column: &mut [f64])
     requires { ⌜ InRange l ⌝ }
     requires { ⌜ i < l .n ⌝ }
-    ensures { λ _. ⌜ now (column .exit) ≡ storedAll (put (kktIn l (demandRow power i)) minusOne64 ∷ []) (now (column .entry)) ⌝ }
+    ensures { λ _. ⌜ now (column .exit) ≡ storedAll (put (kktIn l (balanceRow power i)) (constant64 minusOne) ∷ []) (now (column .entry)) ⌝ }
 {
-    let row = demand_row(l, power, i) as usize;
+    let row = balance_row(l, power, i) as usize;
     store_f64(column, nvar(l) as usize + row, -1.0);
 }
 
@@ -169,13 +136,4 @@ pub fn cost(l: SocWrLayout, term: CostTerm, g: usize, x: &[f64], column: &mut [f
 {
     let col = col_pg(l, g) as usize;
     store_f64(column, col, cost_slope(term, value(x, col)));
-}
-
-pub fn shunt(l: SocWrLayout, gb: GB, i: usize, x: &[f64], z: &[f64], column: &mut [f64])
-    requires { ⌜ InRange l ⌝ }
-    requires { ⌜ i < l .n ⌝ }
-    ensures { λ _. ⌜ now (column .exit) ≡ storedAll (plus (kktIn l (shuntRow gb i)) (mul binary64 (shuntEntry gb) (getD (now (x .entry)) (layoutColumn l (W i)) nan)) ∷ plus (layoutColumn l (W i)) (mul binary64 (shuntEntry gb) (getD (now (z .entry)) (layoutRow l (shuntRow gb i)) nan)) ∷ []) (now (column .entry)) ⌝ }
-{
-    let row = shunt_row(l, gb, i);
-    land(column, nvar(l), row, col_w(l, i), shunt_entry(gb), x, z);
 }

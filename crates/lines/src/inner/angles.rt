@@ -21,7 +21,7 @@ ghost use Rattle.numbering.specs.declared.RowName.the-variants.{Angub, Anglb};
 ghost use Rattle.lines.specs.Line.{Network, networkIn, Stands};
 
 // The flag is set, and the bounds are not as wide as the whole circle.
-pub fn conic_angle_bound_active(b: &[u8], r: usize) -> bool
+pub(crate) fn conic_angle_bound_active(b: &[u8], r: usize) -> bool
     requires { ⌜ 128 * r + 128 ≤ length (now b) ⌝ }
     ensures { λ x. ⌜ x ≡ angledOf (now (b .entry)) r ⌝ }
 {

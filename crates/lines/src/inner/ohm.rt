@@ -34,7 +34,7 @@ ghost use Rattle.lines.specs.Line.{Network, networkIn};
 ghost use Rattle.lines.specs.Ohm.{seriesOf, ohmOf, OhmStands};
 
 // The branch of record r.
-pub fn series(bytes: &[u8], r: usize) -> Series
+pub(crate) fn series(bytes: &[u8], r: usize) -> Series
     requires { ⌜ 128 * r + 128 ≤ length (now bytes) ⌝ }
     ensures { λ x. ⌜ x ≡ seriesOf (now (bytes .entry)) r ⌝ }
 {

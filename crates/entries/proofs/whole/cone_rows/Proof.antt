@@ -3,10 +3,11 @@ use Rattle.lists.proofs.Written.{then, pos, wrote-turned, len-rows, len-cols, l
 use denote.Ref.{now}
 use Rattle.lists.specs.UpTo.{each}
 use Rattle.lines.specs.Line.{networkIn}
-use Rattle.entries.proofs.Rooms.{room-first, room-then}
+use Rattle.complementarity.proofs.Rooms.{room-first, room-then}
 use mathlib.Core.List.{_++_}
 use Rattle.numbering.specs.declared.RowName.the-variants.{Pbal, Qbal, OhmPf, OhmQf, OhmPt, OhmQt, Wub, Wlb, Pgub, Pglb, Qgub, Qglb, Angub, Anglb, Segment, Jabr}
-use Rattle.entries.specs.Writes.{coneIn, thermalIn}
+use Rattle.complementarity.specs.Writes.{coneIn}
+use Rattle.blocks.specs.Kinds.{thermalIn}
 use Rattle.entries.proofs.whole.cone_rows.Statement.{statement}
 use Rattle.entries.proofs.whole.cone_rows.Tie as tie
 

@@ -7,7 +7,8 @@ use Rattle.entries.proofs.Rooms.{room-before, room-after, room-plain}
 use mathlib.Core.List.{_++_}
 use mathlib.Core.Bool.{true, false}
 use Rattle.rows.specs.Program.{equalities, inequalities, secondOrder, everyRow, quadratic}
-use Rattle.entries.specs.Writes.{rowIn, coneIn, stationarity}
+use Rattle.complementarity.specs.Writes.{rowIn, coneIn}
+use Rattle.entries.specs.Parts.{stationarity}
 use Rattle.kkt.specs.Kkt.{kkt, kktOf}
 use Rattle.entries.proofs.Answers.{covers}
 use Rattle.entries.proofs.whole.kkt_list.Statement.{statement}

@@ -8,7 +8,7 @@ use mathlib.Core.List.{_++_}
 use Rattle.kkt.specs.Kkt.{plainRow}
 use mathlib.Core.Bool.{true, false}
 use Rattle.rows.specs.Program.{equalities, inequalities, secondOrder, everyRow, quadratic}
-use Rattle.entries.specs.Writes.{rowIn, coneIn}
+use Rattle.complementarity.specs.Writes.{rowIn, coneIn}
 use Rattle.entries.proofs.whole.program_rows.Statement.{statement}
 use Rattle.entries.proofs.whole.program_rows.Tie as tie
 

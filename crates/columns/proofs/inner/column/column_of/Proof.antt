@@ -3,13 +3,13 @@ use borrow.Author.Needs.{needs}
 use Prim.Native.Nat.{ℕ, _≤_}
 use Rattle.lists.specs.UpTo.{overlay}
 use Rattle.refusals.specs.declared.Written.the-variants.{Count}
-use Rattle.columns.specs.Stores.{storedAll}
+use Rattle.admittance.specs.Stores.{storedAll}
 use mathlib.Core.Path.{sym, ap, _∙_}
 use native.Mathlib.Omega.{arith}
 use lib.ListN.{length, replicate}
 use lib.Seq.{length-take-le}
 use Rattle.refusals.proofs.Laws.{accepted-by, refused-by, left-refused, left-written, count-written}
-use Rattle.columns.specs.Laid.{netOf}
+use Rattle.solution.specs.Laid.{netOf}
 use Rattle.columns.specs.Jacobian.{jacobian, stores}
 use Rattle.rows.specs.Rows.{zero64}
 use Rattle.columns.proofs.Causes.{column-room, column-index, stored-front}

@@ -1,6 +1,6 @@
 -- `columns::inner::column::dim` meets its contract. Assumes nothing.
 use borrow.Author.Needs.{needs}
-use Rattle.columns.proofs.Numbers.{nvar-number, ncon-number}
+use Rattle.solution.proofs.Laid.{nvar-number, ncon-number}
 use Rattle.columns.proofs.inner.column.dim.Statement.{statement}
 use Rattle.columns.proofs.inner.column.dim.Tie as tie
 

@@ -4,7 +4,7 @@ use mathlib.Core.Path.{_≡_, refl, sym, _∙_}
 use mathlib.Core.Bool.{true, false}
 use borrow.Author.Tests.{lt-ltb, le-ltb, not-true, not-false}
 use Rattle.refusals.specs.Refusals.{refuseUnless, _orElse_}
-use Rattle.columns.specs.Lengths.{hasParameter}
+use Rattle.elements.specs.Lengths.{hasParameter}
 use Rattle.columns.specs.Jacobian.{parameterCause}
 use Rattle.columns.proofs.inner.column.parameter_cause.Statement.{statement}
 use Rattle.columns.proofs.inner.column.parameter_cause.Tie as tie

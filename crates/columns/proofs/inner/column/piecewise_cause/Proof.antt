@@ -4,7 +4,7 @@ use native.Mathlib.Omega.{arith}
 use mathlib.Core.Path.{_≡_, refl, sym, _∙_}
 use mathlib.Core.Bool.{true, false}
 use Rattle.refusals.proofs.Laws.{held}
-use Rattle.columns.specs.Lengths.{asksCost}
+use Rattle.elements.specs.Lengths.{asksCost}
 use Rattle.columns.specs.Jacobian.{piecewiseCause}
 use Rattle.columns.proofs.Causes.{cost-below}
 use Rattle.columns.proofs.inner.column.piecewise_cause.Statement.{statement}

@@ -5,10 +5,11 @@ use mathlib.Core.List.{List}
 use lib.Ieee.{Float}
 use Prim.Native.Nat.{ℕ, _<_}
 use Rattle.interface.specs.declared.Parameter.{Parameter}
-use Rattle.columns.specs.Stores.{Store, storedAll}
-use Rattle.columns.specs.Lengths.{parameterLen}
+use Rattle.admittance.specs.Stores.{Store, storedAll}
+use Rattle.elements.specs.Lengths.{parameterLen}
 use Rattle.columns.specs.Jacobian.{stores}
-use Rattle.columns.proofs.Parameters.{demand-same, voltage-same, gen-same, cost-same, shunt-same}
+use Rattle.admittance.proofs.Numbers.{shunt-same}
+use Rattle.columns.proofs.Parameters.{demand-same, voltage-same, gen-same, cost-same}
 use Rattle.columns.proofs.inner.column.write.Statement.{statement}
 use Rattle.columns.proofs.inner.column.write.Tie as tie
 
@@ -59,9 +60,10 @@ unfolding stores storedAll
 returns-4 c = rw (c .before .before .before .before .before .p3 .given .1) (c .before .before .series-admittance .ensures)
 
 returns-5 : tie.Need-returns-5
+unfolding stores
 returns-5 c =
     let a = c .before .before .before .before .before .before .before .before .before .before .before .args in
-    rw (c .before .before .before .before .before .p4 .given .1) (c .before .before .shunt .ensures ∙ ap (λ (ss : List Store). storedAll ss (a .column .now)) (shunt-same (a .l) (a .bytes .now) (c .before .before .before .before .before .before .before .before .before .before .before .pre .0) (a .x .now) (a .z .now) _ (a .i)))
+    rw (c .before .before .before .before .before .p4 .given .1) (c .before .before .shunt .ensures ∙ ap (λ (ss : List Store). storedAll ss (a .column .now)) (shunt-same (a .l) (a .bytes .now) (c .before .before .before .before .before .before .before .before .before .before .before .pre .0) (a .x .now) (a .z .now) (c .before .before .before .before .before .p4 .given .0 .0) (a .i)))
 
 returns-6 : tie.Need-returns-6
 returns-6 c =

@@ -2,10 +2,10 @@
 use borrow.Author.Needs.{needs}
 use mathlib.Core.Path.{_≡_, sym, _∙_, ap}
 use mathlib.Core.List.{List}
-use Rattle.columns.specs.Laid.{netOf}
-use Rattle.columns.specs.Stores.{Store, storedAll}
-use Rattle.columns.proofs.Entries.{limit-same, no-limit}
-use Rattle.columns.proofs.Numbers.{nvar-number}
+use Rattle.solution.specs.Laid.{netOf}
+use Rattle.admittance.specs.Stores.{Store, storedAll}
+use Rattle.columns.proofs.Limit.{limit-same, no-limit}
+use Rattle.solution.proofs.Laid.{nvar-number}
 use Rattle.columns.proofs.inner.limit.line_limit.Statement.{statement}
 use Rattle.columns.proofs.inner.limit.line_limit.Tie as tie
 

@@ -7,8 +7,8 @@ use native.Mathlib.Omega.{arith}
 use lib.ListN.{length, getD}
 use lib.Ieee.{nan}
 use Rattle.lists.specs.UpTo.{each}
-use Rattle.columns.specs.Stores.{put, storedAll}
-use Rattle.columns.proofs.Stored.{count-none, count-more, stored-length}
+use Rattle.admittance.specs.Stores.{put, storedAll}
+use Rattle.admittance.proofs.Stored.{count-none, count-more, stored-length}
 use Rattle.columns.proofs.inner.limit.six.Statement.{statement}
 use Rattle.columns.proofs.inner.limit.six.Tie as tie
 

@@ -1,0 +1,36 @@
+-- The stores of a shunt at a layout's numbers are those at the network's names. Assumes nothing.
+use Prim.Native.Nat.{ℕ, _+_}
+use mathlib.Core.Path.{_≡_, refl, ap₂}
+use mathlib.Core.List.{List, [], _∷_}
+use lib.ListN.{getD}
+use lib.Ieee.{Float, binary64, nan, mul}
+use Rattle.numbering.specs.Numbering.{rowNumber}
+use Rattle.numbering.specs.Layout.{layoutRow, layoutColumn}
+use Rattle.numbering.specs.declared.SocWrLayout.{SocWrLayout}
+use Rattle.numbering.specs.declared.ColumnName.the-variants.{W}
+use Rattle.numbering.specs.declared.RowName.{RowName}
+use Rattle.kkt.specs.Kkt.{kktRow}
+use Rattle.interface.specs.declared.GB.{GB}
+use Rattle.interface.specs.declared.GB.the-variants.{Conductance, Susceptance}
+use Rattle.solution.specs.Laid.{netOf, Laid}
+use Rattle.solution.proofs.Laid.{nvar-number}
+use Rattle.admittance.specs.Stores.{plus}
+use Rattle.admittance.specs.Admittance.{shuntRow, shuntEntry, shuntStores}
+use Rattle.admittance.specs.Places.{kktIn}
+
+module _ (l : SocWrLayout) (b : List ℕ) where
+  shunt-number : (gb : GB) (i : ℕ) → layoutRow l (shuntRow gb i) ≡ rowNumber (netOf l b) (shuntRow gb i)
+  shunt-number Conductance i = refl
+  shunt-number Susceptance i = refl
+
+  module _ (h : Laid l b) where
+    pub kkt-number : (r : RowName) → layoutRow l r ≡ rowNumber (netOf l b) r → kktIn l r ≡ kktRow (netOf l b) r
+    kkt-number r e = ap₂ _+_ (nvar-number l b h) e
+
+    pub shunt-same : (x z : List Float) (gb : GB) (i : ℕ)
+        → plus (kktIn l (shuntRow gb i)) (mul binary64 (shuntEntry gb) (getD x (layoutColumn l (W i)) nan))
+        ∷ plus (layoutColumn l (W i)) (mul binary64 (shuntEntry gb) (getD z (layoutRow l (shuntRow gb i)) nan)) ∷ []
+        ≡ shuntStores (netOf l b) x z gb i
+    shunt-same x z gb i =
+        ap₂ (λ (at q : ℕ). plus at (mul binary64 (shuntEntry gb) (getD x (layoutColumn l (W i)) nan)) ∷ plus (layoutColumn l (W i)) (mul binary64 (shuntEntry gb) (getD z q nan)) ∷ [])
+        (kkt-number (shuntRow gb i) (shunt-number gb i)) (shunt-number gb i)

@@ -1,0 +1,4 @@
+pub mod Stores
+pub mod Series
+pub mod Admittance
+pub mod Places

@@ -1,0 +1,52 @@
+-- The numbers of a branch's Ohm rows and columns, and its ten series entries at them.
+use Prim.Native.Nat.{ℕ, _+_}
+use mathlib.Core.List.{List, [], _∷_, map}
+use lib.ListN.{getD}
+use lib.Ieee.{Float, binary64, nan, mul}
+use Rattle.numbering.specs.Blocks.{total}
+use Rattle.numbering.specs.Layout.{layoutColumns, layoutRow, layoutColumn}
+use Rattle.numbering.specs.declared.SocWrLayout.{SocWrLayout}
+use Rattle.numbering.specs.declared.RowName.{RowName}
+use Rattle.rows.specs.Ops.{rounded}
+use Rattle.rows.specs.Rows.{OhmRow, pf, qf, pt, qt, OhmPlace, w, wr, wi, flow}
+use Rattle.interface.specs.declared.GB.{GB}
+use Rattle.admittance.specs.Stores.{Store, plus}
+use Rattle.admittance.specs.Series.{Slope, series}
+use Rattle.admittance.specs.Admittance.{entry64, inTurn}
+use Rattle.branch.specs.declared.Series.{Series}
+use Rattle.admittance.specs.declared.inner.series.OhmRows.{OhmRows}
+use Rattle.admittance.specs.declared.inner.series.OhmColumns.{OhmColumns}
+use Rattle.admittance.specs.declared.inner.series.Entry.{Entry}
+
+-- a row of the program as a row of the KKT matrix
+abbrev pub kktIn : SocWrLayout → RowName → ℕ
+kktIn l x = total (layoutColumns l) + layoutRow l x
+
+abbrev pub rowIn : OhmRows → OhmRow → ℕ
+rowIn rs pf = rs .pf
+rowIn rs qf = rs .qf
+rowIn rs pt = rs .pt
+rowIn rs qt = rs .qt
+
+-- no entry is at the flow's column
+abbrev pub columnIn : OhmColumns → OhmRow → OhmPlace → ℕ
+columnIn cs pf w = cs .from
+columnIn cs qf w = cs .from
+columnIn cs pt w = cs .to
+columnIn cs qt w = cs .to
+columnIn cs r wr = cs .wr
+columnIn cs r wi = cs .wi
+columnIn cs r flow = 0
+
+abbrev pub entryAt : OhmRows → OhmColumns → Series → Slope Float → Entry
+entryAt rs cs t d = record { 0 = rowIn rs (d .row); 1 = columnIn cs (d .row) (d .place); 2 = entry64 (t .tm2) (d .value) }
+
+unfoldable pub seriesEntries : OhmRows → OhmColumns → Series → GB → List Entry
+seriesEntries rs cs t gb = map (entryAt rs cs t) (series rounded (t .tr) (t .ti) gb)
+
+-- an entry's two stores, and those of all entries
+abbrev pub landedAt : List Float → List Float → ℕ → Entry → List Store
+landedAt x z nvar d = plus (nvar + d .0) (mul binary64 (d .2) (getD x (d .1) nan)) ∷ plus (d .1) (mul binary64 (d .2) (getD z (d .0) nan)) ∷ []
+
+abbrev pub landedAll : List Float → List Float → ℕ → List Entry → List Store
+landedAll x z nvar es = inTurn (landedAt x z nvar) es

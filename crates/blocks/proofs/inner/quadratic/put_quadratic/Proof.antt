@@ -1,0 +1,47 @@
+-- `blocks::inner::quadratic::put_quadratic` meets its contract. Assumes nothing.
+use Prim.Native.Nat.{_≤_, _-_}
+use mathlib.Core.Path.{_≡_}
+use Rattle.lists.specs.UpTo.{each}
+use Rattle.lists.specs.Out.{out, Wrote}
+use Rattle.lists.proofs.Written.{no-turn, turn, len-rows, len-cols, len-vals}
+use Rattle.complementarity.proofs.Rooms.{room-turn}
+use denote.Ref.{now}
+use Rattle.rows.specs.Program.{quadratic}
+use Rattle.lines.proofs.Lines.{in-range}
+use Rattle.blocks.proofs.Laws.{diagonalAt}
+use borrow.Author.Needs.{needs}
+use native.Mathlib.Omega.{arith}
+use Rattle.blocks.proofs.inner.quadratic.put_quadratic.Statement.{statement}
+use Rattle.blocks.proofs.inner.quadratic.put_quadratic.Tie as tie
+
+abbrev Inv-loop : tie.InvT-loop
+Inv-loop rows₀ cols₀ vals₀ at l bytes next₀ g₀ rows cols vals next g = (g ≤ l .k) × Wrote (each g (diagonalAt l bytes)) (out rows₀ cols₀ vals₀ at) (out rows cols vals next)
+
+abbrev μ-loop : tie.MeasureT-loop
+μ-loop rows₀ cols₀ vals₀ at l bytes next₀ g₀ rows cols vals next g = l .k - g
+
+add-cq : tie.Need-add-cq Inv-loop μ-loop
+add-cq c = let q = in-range (c .before .before .before .before .before .before .before .before .pre .0) in omega arith
+
+add-cq-2 : tie.Need-add-cq-2 Inv-loop μ-loop
+add-cq-2 c = let q = in-range (c .before .before .before .before .before .before .before .before .pre .0) in omega arith
+
+cq-requires : tie.Need-cq-requires Inv-loop μ-loop
+cq-requires c κs = omega (arith, c .before .before .before .before .before .before .before .before .pre .0 .accepted .size)
+
+col-pg-requires : tie.Need-col-pg-requires Inv-loop μ-loop
+col-pg-requires c κs = (in-range (c .before .before .before .before .before .before .before .before .before .pre .0), c .before .before .if1 .taken)
+
+put-if-requires : tie.Need-put-if-requires Inv-loop μ-loop
+unfolding quadratic
+put-if-requires c κs = rw (c .before .before .before .col-pg .ensures, c .before .before .before .before .cq .ensures) (room-turn (diagonalAt (c .before .before .before .before .before .before .before .before .before .before .before .before .before .args .l) (now (c .before .before .before .before .before .before .before .before .before .before .before .before .before .args .bytes))) _ _ (c .before .before .before .before .before .before .before .before .loop .inv .1) (c .before .before .before .before .before .before .if1 .taken) (c .before .before .before .before .before .before .before .before .before .before .before .before .before .pre .1))
+
+loop-again : tie.Need-loop-again Inv-loop μ-loop
+loop-again c = (omega arith, turn _ _ (c .before .before .before .before .before .before .before .before .before .before .before .before .before .before .before .loop .inv .1) (rw (c .before .before .before .before .before .before .before .before .before .before .col-pg .ensures, c .before .before .before .before .before .before .before .before .before .before .before .cq .ensures) at (c .before .before .before .before .before .before .put-if .ensures)))
+
+returns : tie.Need-returns Inv-loop μ-loop
+unfolding quadratic
+returns c = let e : c .before .before .loop .g ≡ c .before .before .before .before .before .before .before .args .l .k = omega arith in rw e at (c .before .before .loop .inv .1)
+
+pub put-quadratic-spec : {M : Type 1} → statement M
+put-quadratic-spec = tie.close (tie.spec Inv-loop μ-loop (λ c. (omega arith, no-turn _)) add-cq add-cq-2 cq-requires col-pg-requires put-if-requires (λ c. search needs) (λ c. search needs) loop-again (λ c. len-rows (c .before .before .loop .inv .1)) (λ c. len-cols (c .before .before .loop .inv .1)) (λ c. len-vals (c .before .before .loop .inv .1)) returns)

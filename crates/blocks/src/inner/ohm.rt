@@ -1,0 +1,88 @@
+// The Ohm rows.
+use crate::Flow;
+use lines::Ohm;
+use lines::inner::ohm::ohm_pf;
+use lines::inner::ohm::ohm_pt;
+use lines::inner::ohm::ohm_qf;
+use lines::inner::ohm::ohm_qt;
+use lists::inner::put;
+use lists::inner::put_if;
+use numbering::SocWrLayout;
+use numbering::inner::nvar;
+ghost use Prim.Native.Nat.{_+_, _<_, _^_};
+ghost use lib.ListN.{length};
+ghost use Rattle.lists.specs.Out.{out, Wrote};
+ghost use Rattle.lists.specs.UpTo.{each};
+ghost use Rattle.kkt.specs.Kkt.{plainRow};
+ghost use Rattle.lines.specs.Line.{networkIn, Network};
+ghost use Rattle.lines.specs.Ohm.{ohmAt, OhmStands};
+ghost use Rattle.blocks.specs.Kinds.{flowName};
+
+fn put_ohm(rows: &mut [u32], cols: &mut [u32], vals: &mut [f64], at: usize, r: u32, o: Ohm) -> usize
+    requires { ⌜ at + length (ohmAt r o) < 2 ^ 64 ⌝ }
+    ensures { λ next. ⌜ Wrote (ohmAt r o) (out (now (rows .entry)) (now (cols .entry)) (now (vals .entry)) at) (out (now (rows .exit)) (now (cols .exit)) (now (vals .exit)) next) ⌝ }
+{
+    let a = o.at_w;
+    let b = o.at_wr;
+    let c = o.at_wi;
+    let n1 = put_if(rows, cols, vals, at, a != 0.0, r, o.w, a);
+    let n2 = put_if(rows, cols, vals, n1, b != 0.0, r, o.wr, b);
+    let n3 = put_if(rows, cols, vals, n2, c != 0.0, r, o.wi, c);
+    put(rows, cols, vals, n3, r, o.flow, 1.0)
+}
+
+fn ohm_line(l: SocWrLayout, bytes: &[u8], flow: Flow, e: usize) -> Ohm
+    requires { ⌜ Network l (now bytes) ⌝ }
+    requires { ⌜ e < l .m ⌝ }
+    ensures { λ r. ⌜ OhmStands (networkIn l (now (bytes .entry))) (flowName flow e) r ⌝ }
+{
+    match flow {
+        Flow::Pf => ohm_pf(l, bytes, e),
+        Flow::Qf => ohm_qf(l, bytes, e),
+        Flow::Pt => ohm_pt(l, bytes, e),
+        Flow::Qt => ohm_qt(l, bytes, e),
+    }
+}
+
+fn ohm_row(
+    rows: &mut [u32],
+    cols: &mut [u32],
+    vals: &mut [f64],
+    at: usize,
+    l: SocWrLayout,
+    bytes: &[u8],
+    flow: Flow,
+    e: usize,
+) -> usize
+    requires { ⌜ Network l (now bytes) ⌝ }
+    requires { ⌜ e < l .m ⌝ }
+    requires { ⌜ at + length (plainRow (networkIn l (now bytes)) (flowName flow e)) < 2 ^ 64 ⌝ }
+    ensures { λ next. ⌜ Wrote (plainRow (networkIn l (now (bytes .entry))) (flowName flow e)) (out (now (rows .entry)) (now (cols .entry)) (now (vals .entry)) at) (out (now (rows .exit)) (now (cols .exit)) (now (vals .exit)) next) ⌝ }
+{
+    let o = ohm_line(l, bytes, flow, e);
+    let r = nvar(l) + o.row;
+    put_ohm(rows, cols, vals, at, r, o)
+}
+
+// The rows of one flow.
+pub fn ohm_rows(
+    rows: &mut [u32],
+    cols: &mut [u32],
+    vals: &mut [f64],
+    at: usize,
+    l: SocWrLayout,
+    bytes: &[u8],
+    flow: Flow,
+) -> usize
+    requires { ⌜ Network l (now bytes) ⌝ }
+    requires { ⌜ at + length (each (l .m) (λ e. plainRow (networkIn l (now bytes)) (flowName flow e))) < 2 ^ 64 ⌝ }
+    ensures { λ next. ⌜ Wrote (each (l .m) (λ e. plainRow (networkIn l (now (bytes .entry))) (flowName flow e))) (out (now (rows .entry)) (now (cols .entry)) (now (vals .entry)) at) (out (now (rows .exit)) (now (cols .exit)) (now (vals .exit)) next) ⌝ }
+{
+    let mut next = at;
+    let mut e = 0;
+    while e < l.m {
+        next = ohm_row(rows, cols, vals, next, l, bytes, flow, e);
+        e += 1;
+    }
+    next
+}

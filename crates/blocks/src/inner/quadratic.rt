@@ -1,0 +1,34 @@
+// P.
+use lists::inner::put_if;
+use numbering::SocWrLayout;
+use numbering::inner::col_pg;
+use records::inner::cq;
+ghost use Prim.Native.Nat.{_+_, _*_, _<_, _^_};
+ghost use lib.ListN.{length};
+ghost use Rattle.lists.specs.Out.{out, Wrote};
+ghost use Rattle.rows.specs.Program.{quadratic};
+ghost use Rattle.lines.specs.Line.{networkIn, Network};
+
+// The diagonal of P.
+pub fn put_quadratic(
+    rows: &mut [u32],
+    cols: &mut [u32],
+    vals: &mut [f64],
+    at: usize,
+    l: SocWrLayout,
+    bytes: &[u8],
+) -> usize
+    requires { ⌜ Network l (now bytes) ⌝ }
+    requires { ⌜ at + length (quadratic (networkIn l (now bytes))) < 2 ^ 64 ⌝ }
+    ensures { λ next. ⌜ Wrote (quadratic (networkIn l (now (bytes .entry)))) (out (now (rows .entry)) (now (cols .entry)) (now (vals .entry)) at) (out (now (rows .exit)) (now (cols .exit)) (now (vals .exit)) next) ⌝ }
+{
+    let mut next = at;
+    let mut g = 0;
+    while g < l.k {
+        let v = 2.0 * cq(bytes, l.n + l.m + g);
+        let c = col_pg(l, g);
+        next = put_if(rows, cols, vals, next, v != 0.0, c, c, v);
+        g += 1;
+    }
+    next
+}

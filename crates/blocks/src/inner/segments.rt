@@ -1,0 +1,127 @@
+// The rows of the cost segments.
+use complementarity::inner::single::put_row;
+use lines::inner::generators::segment;
+use numbering::SocWrLayout;
+use numbering::inner::nvar;
+use records::inner::piecewise;
+use records::inner::segments;
+ghost use mathlib.Core.Path.{_≡_};
+ghost use Prim.Native.Nat.{_+_, _<_, _^_};
+ghost use lib.ListN.{length};
+ghost use Rattle.lists.specs.Out.{out, Wrote};
+ghost use Rattle.lists.specs.UpTo.{sum, count, each, bit as one};
+ghost use Rattle.numbering.specs.declared.RowName.the-variants.{Segment};
+ghost use Rattle.lines.specs.Line.{networkIn};
+ghost use Rattle.complementarity.specs.Writes.{Given, rowIn};
+
+fn segment_row(
+    rows: &mut [u32],
+    cols: &mut [u32],
+    vals: &mut [f64],
+    at: usize,
+    l: SocWrLayout,
+    bytes: &[u8],
+    x: &[f64],
+    z: &[f64],
+    d: bool,
+    g: usize,
+    t: usize,
+    before: usize,
+    curves: usize,
+) -> usize
+    requires { ⌜ Given l (now bytes) (now x) (now z) ⌝ }
+    requires { ⌜ (g < l .k) × (t < (networkIn l (now bytes)) .segments g) ⌝ }
+    requires { ⌜ (before ≡ sum g ((networkIn l (now bytes)) .segments)) × (curves ≡ count g ((networkIn l (now bytes)) .piecewise)) ⌝ }
+    requires { ⌜ at + length (rowIn (networkIn l (now bytes)) (now x) (now z) d (Segment g t)) < 2 ^ 64 ⌝ }
+    ensures { λ next. ⌜ Wrote (rowIn (networkIn l (now (bytes .entry))) (now (x .entry)) (now (z .entry)) d (Segment g t)) (out (now (rows .entry)) (now (cols .entry)) (now (vals .entry)) at) (out (now (rows .exit)) (now (cols .exit)) (now (vals .exit)) next) ⌝ }
+{
+    let line = segment(l, bytes, g, t, before, curves);
+    let v = nvar(l);
+    put_row(rows, cols, vals, at, d, v, line, x, z)
+}
+
+// The segments of generator g; so many segments and cost columns are before its own.
+fn segments_of(
+    rows: &mut [u32],
+    cols: &mut [u32],
+    vals: &mut [f64],
+    at: usize,
+    l: SocWrLayout,
+    bytes: &[u8],
+    x: &[f64],
+    z: &[f64],
+    d: bool,
+    g: usize,
+    before: usize,
+    curves: usize,
+) -> usize
+    requires { ⌜ Given l (now bytes) (now x) (now z) ⌝ }
+    requires { ⌜ g < l .k ⌝ }
+    requires { ⌜ (before ≡ sum g ((networkIn l (now bytes)) .segments)) × (curves ≡ count g ((networkIn l (now bytes)) .piecewise)) ⌝ }
+    requires { ⌜ at + length (each ((networkIn l (now bytes)) .segments g) (λ t. rowIn (networkIn l (now bytes)) (now x) (now z) d (Segment g t))) < 2 ^ 64 ⌝ }
+    ensures { λ next. ⌜ Wrote (each ((networkIn l (now (bytes .entry))) .segments g) (λ t. rowIn (networkIn l (now (bytes .entry))) (now (x .entry)) (now (z .entry)) d (Segment g t))) (out (now (rows .entry)) (now (cols .entry)) (now (vals .entry)) at) (out (now (rows .exit)) (now (cols .exit)) (now (vals .exit)) next) ⌝ }
+{
+    let r = l.n + l.m + g;
+    let n = segments(bytes, r);
+    let mut next = at;
+    let mut t = 0;
+    while t < n {
+        next = segment_row(
+            rows,
+            cols,
+            vals,
+            next,
+            l,
+            bytes,
+            x,
+            z,
+            d,
+            g,
+            t,
+            before,
+            curves,
+        );
+        t += 1;
+    }
+    next
+}
+
+// 1 where the test holds, else 0.
+pub(crate) fn bit(x: bool) -> usize
+    ensures { λ r. ⌜ r ≡ one x ⌝ }
+    ensures { λ r. ⌜ r < 2 ⌝ }
+{
+    if x {
+        return 1;
+    }
+    0
+}
+
+pub fn segment_rows(
+    rows: &mut [u32],
+    cols: &mut [u32],
+    vals: &mut [f64],
+    at: usize,
+    l: SocWrLayout,
+    bytes: &[u8],
+    x: &[f64],
+    z: &[f64],
+    d: bool,
+) -> usize
+    requires { ⌜ Given l (now bytes) (now x) (now z) ⌝ }
+    requires { ⌜ at + length (each (l .k) (λ g. each ((networkIn l (now bytes)) .segments g) (λ t. rowIn (networkIn l (now bytes)) (now x) (now z) d (Segment g t)))) < 2 ^ 64 ⌝ }
+    ensures { λ next. ⌜ Wrote (each (l .k) (λ g. each ((networkIn l (now (bytes .entry))) .segments g) (λ t. rowIn (networkIn l (now (bytes .entry))) (now (x .entry)) (now (z .entry)) d (Segment g t)))) (out (now (rows .entry)) (now (cols .entry)) (now (vals .entry)) at) (out (now (rows .exit)) (now (cols .exit)) (now (vals .exit)) next) ⌝ }
+{
+    let mut before = 0;
+    let mut curves = 0;
+    let mut next = at;
+    let mut g = 0;
+    while g < l.k {
+        let r = l.n + l.m + g;
+        next = segments_of(rows, cols, vals, next, l, bytes, x, z, d, g, before, curves);
+        before += segments(bytes, r);
+        curves += bit(piecewise(bytes, r));
+        g += 1;
+    }
+    next
+}

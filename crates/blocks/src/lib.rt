@@ -1,0 +1,22 @@
+// The rows of each block: of one kind, for all its records.
+pub mod inner;
+
+// The kinds of rows that bound one thing each: a voltage, a dispatch, an angle.
+pub enum Bound {
+    Wub,
+    Wlb,
+    Pgub,
+    Pglb,
+    Qgub,
+    Qglb,
+    Angub,
+    Anglb,
+}
+
+// The kinds of Ohm rows.
+pub enum Flow {
+    Pf,
+    Qf,
+    Pt,
+    Qt,
+}

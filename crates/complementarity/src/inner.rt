@@ -1,0 +1,3 @@
+// Each as it is, or with its duals and its slacks.
+pub mod cones;
+pub mod single;

@@ -1,0 +1,9 @@
+-- `operands::inner::selector::selected_if` meets its contract. Assumes nothing.
+use borrow.Author.Needs.{needs}
+use Rattle.operands.specs.Selector.{selectedIf}
+use Rattle.operands.proofs.inner.selector.selected_if.Statement.{statement}
+use Rattle.operands.proofs.inner.selector.selected_if.Tie as tie
+
+pub selected-if-spec : {M : Type 1} → statement M
+unfolding selectedIf
+selected-if-spec = tie.close (tie.spec (λ c. search needs) (λ c. search needs) (λ c. rw (c .enum-told .given .1)) (λ c. rw (c .before .check .given .1)))

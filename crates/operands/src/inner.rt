@@ -1,0 +1,2 @@
+// The worker, on the layout of accepted records.
+pub mod selector;

@@ -1,0 +1,231 @@
+// The selector of an operand.
+use crate::Selected;
+use elements::inner::lengths::has_operand;
+use elements::inner::lengths::operand_count;
+use elements::inner::power::balance_row;
+use interface::End;
+use interface::Operand;
+use interface::Power;
+use interface::VoltageKind;
+use lists::inner::fill_f64;
+use numbering::SocWrLayout;
+use numbering::inner::col_pf;
+use numbering::inner::col_pg;
+use numbering::inner::col_pt;
+use numbering::inner::col_qf;
+use numbering::inner::col_qg;
+use numbering::inner::col_qt;
+use numbering::inner::col_w;
+use numbering::inner::col_wi;
+use numbering::inner::col_wr;
+use numbering::inner::nvar;
+use refusals::Checked;
+use refusals::Refusal;
+use refusals::is_refused;
+use refusals::or_else;
+use refusals::refuse_unless;
+use refusals::room_for;
+ghost use mathlib.Core.Path.{_≡_};
+ghost use mathlib.Core.Bool.{true};
+ghost use Prim.Native.Nat.{_+_, _≤_, _<_};
+ghost use lib.ListN.{length};
+ghost use Rattle.lists.specs.UpTo.{listed, overlay};
+ghost use Rattle.refusals.specs.Refusals.{leftIn};
+ghost use Rattle.interface.specs.Selectors.{unitStarts, unitWeights};
+ghost use Rattle.numbering.specs.Layout.{InRange, layoutColumn};
+ghost use Rattle.solution.specs.Laid.{netOf, Laid};
+ghost use Rattle.elements.specs.Lengths.{hasOperand, operandLen, voltageLen};
+ghost use Rattle.operands.specs.Selector.{dispatchColumn, flowOf, voltageAt, selectorRow, selectorRows, selectorElements, selectorSign, roomCause, operandCause, selectedIf};
+
+// base, base + 1, .., n of them.
+fn count_from(d: &mut [u32], n: usize, base: u32)
+    requires { ⌜ (n ≤ length (now d)) × (n ≤ 131072) × (base ≤ 131072) ⌝ }
+    ensures { λ _. ⌜ now (d .exit) ≡ overlay (listed n (λ j. base + j)) (now (d .entry)) ⌝ }
+{
+    let mut at = base;
+    for j in 0..n {
+        d[j] = at;
+        at += 1;
+    }
+}
+
+fn price_first(l: SocWrLayout, bytes: &[u8], power: Power) -> u32
+    requires { ⌜ Laid l (now bytes) ⌝ }
+    requires { ⌜ 0 < l .n ⌝ }
+    ensures { λ r. ⌜ r ≡ selectorRow (netOf l (now (bytes .entry))) (Operand.Price power) 0 ⌝ }
+{
+    nvar(l) + balance_row(l, power, 0)
+}
+
+fn dispatch_first(l: SocWrLayout, power: Power) -> u32
+    requires { ⌜ InRange l ⌝ }
+    requires { ⌜ 0 < l .k ⌝ }
+    ensures { λ r. ⌜ r ≡ layoutColumn l (dispatchColumn power 0) ⌝ }
+{
+    match power {
+        Power::Active => col_pg(l, 0),
+        Power::Reactive => col_qg(l, 0),
+    }
+}
+
+fn active_first(l: SocWrLayout, end: End) -> u32
+    requires { ⌜ InRange l ⌝ }
+    requires { ⌜ 0 < l .m ⌝ }
+    ensures { λ r. ⌜ r ≡ layoutColumn l (flowOf Power.Active end 0) ⌝ }
+{
+    match end {
+        End::From => col_pf(l, 0),
+        End::To => col_pt(l, 0),
+    }
+}
+
+fn reactive_first(l: SocWrLayout, end: End) -> u32
+    requires { ⌜ InRange l ⌝ }
+    requires { ⌜ 0 < l .m ⌝ }
+    ensures { λ r. ⌜ r ≡ layoutColumn l (flowOf Power.Reactive end 0) ⌝ }
+{
+    match end {
+        End::From => col_qf(l, 0),
+        End::To => col_qt(l, 0),
+    }
+}
+
+fn flow_first(l: SocWrLayout, power: Power, end: End) -> u32
+    requires { ⌜ InRange l ⌝ }
+    requires { ⌜ 0 < l .m ⌝ }
+    ensures { λ r. ⌜ r ≡ layoutColumn l (flowOf power end 0) ⌝ }
+{
+    match power {
+        Power::Active => active_first(l, end),
+        Power::Reactive => reactive_first(l, end),
+    }
+}
+
+fn voltage_first(l: SocWrLayout, bytes: &[u8], kind: VoltageKind) -> u32
+    requires { ⌜ Laid l (now bytes) ⌝ }
+    requires { ⌜ 0 < voltageLen (l .n) (l .m) kind ⌝ }
+    ensures { λ r. ⌜ r ≡ voltageAt (netOf l (now (bytes .entry))) kind 0 ⌝ }
+{
+    match kind {
+        VoltageKind::Magnitude => 0,
+        VoltageKind::Angle => 0,
+        VoltageKind::Squared => col_w(l, 0),
+        VoltageKind::ProductReal => col_wr(l, 0),
+        VoltageKind::ProductImag => col_wi(l, 0),
+    }
+}
+
+// The row of the first item.
+fn first_row(l: SocWrLayout, bytes: &[u8], o: Operand) -> u32
+    requires { ⌜ Laid l (now bytes) ⌝ }
+    requires { ⌜ 0 < operandLen (l .n) (l .m) (l .k) o ⌝ }
+    ensures { λ r. ⌜ r ≡ selectorRow (netOf l (now (bytes .entry))) o 0 ⌝ }
+{
+    match o {
+        Operand::Price(power) => price_first(l, bytes, power),
+        Operand::Dispatch(power) => dispatch_first(l, power),
+        Operand::Flow { power, end } => flow_first(l, power, end),
+        Operand::Voltage(kind) => voltage_first(l, bytes, kind),
+    }
+}
+
+fn sign(o: Operand) -> f64
+    ensures { λ r. ⌜ r ≡ selectorSign o ⌝ }
+{
+    match o {
+        Operand::Price(_) => -1.0,
+        Operand::Dispatch(_) => 1.0,
+        Operand::Flow { .. } => 1.0,
+        Operand::Voltage(_) => 1.0,
+    }
+}
+
+fn write_rows(l: SocWrLayout, bytes: &[u8], o: Operand, rows: &mut [u32])
+    requires { ⌜ Laid l (now bytes) ⌝ }
+    requires { ⌜ (hasOperand o ≡ true) × (operandLen (l .n) (l .m) (l .k) o ≤ length (now rows)) ⌝ }
+    ensures { λ _. ⌜ now (rows .exit) ≡ overlay (selectorRows (netOf l (now (bytes .entry))) o) (now (rows .entry)) ⌝ }
+{
+    let items = operand_count(l.n, l.m, l.k, o);
+    if items == 0 {
+        return;
+    }
+    count_from(rows, items, first_row(l, bytes, o));
+}
+
+fn room_cause(items: usize, starts: usize, rows: usize, weights: usize, elements: usize) -> Checked
+    requires { ⌜ items ≤ 8192 ⌝ }
+    ensures { λ r. ⌜ r ≡ roomCause items starts rows weights elements ⌝ }
+{
+    let a = room_for(items + 1, starts);
+    let b = room_for(items, rows);
+    let c = room_for(items, weights);
+    let d = room_for(items, elements);
+    or_else(a, or_else(b, or_else(c, d)))
+}
+
+// 9, 10.
+fn operand_cause(
+    l: SocWrLayout,
+    o: Operand,
+    starts: usize,
+    rows: usize,
+    weights: usize,
+    elements: usize,
+) -> Checked
+    requires { ⌜ InRange l ⌝ }
+    ensures { λ r. ⌜ r ≡ operandCause (l .n) (l .m) (l .k) o starts rows weights elements ⌝ }
+{
+    let items = operand_count(l.n, l.m, l.k, o);
+    or_else(
+        refuse_unless(has_operand(o), Refusal::NotInSocWr),
+        room_cause(items, starts, rows, weights, elements),
+    )
+}
+
+pub fn selected_if(check: Checked, count: u64, sign: f64) -> Selected
+    ensures { λ r. ⌜ r ≡ selectedIf check count sign ⌝ }
+{
+    match check {
+        Checked::Accepted => Selected::Items { count, sign },
+        Checked::Refused(cause) => Selected::Refused(cause),
+    }
+}
+
+// The selector on the layout of accepted records.
+pub fn selector_of(
+    l: SocWrLayout,
+    bytes: &[u8],
+    o: Operand,
+    starts: &mut [u32],
+    rows: &mut [u32],
+    weights: &mut [f64],
+    elements: &mut [u32],
+) -> Selected
+    requires { ⌜ Laid l (now bytes) ⌝ }
+    ensures { λ r. ⌜ r ≡ selectedIf (operandCause (l .n) (l .m) (l .k) o (length (now (starts .entry))) (length (now (rows .entry))) (length (now (weights .entry))) (length (now (elements .entry)))) (operandLen (l .n) (l .m) (l .k) o) (selectorSign o) ⌝ }
+    ensures { λ _. ⌜ now (starts .exit) ≡ leftIn (operandCause (l .n) (l .m) (l .k) o (length (now (starts .entry))) (length (now (rows .entry))) (length (now (weights .entry))) (length (now (elements .entry)))) (unitStarts (operandLen (l .n) (l .m) (l .k) o)) (now (starts .entry)) ⌝ }
+    ensures { λ _. ⌜ now (rows .exit) ≡ leftIn (operandCause (l .n) (l .m) (l .k) o (length (now (starts .entry))) (length (now (rows .entry))) (length (now (weights .entry))) (length (now (elements .entry)))) (selectorRows (netOf l (now (bytes .entry))) o) (now (rows .entry)) ⌝ }
+    ensures { λ _. ⌜ now (weights .exit) ≡ leftIn (operandCause (l .n) (l .m) (l .k) o (length (now (starts .entry))) (length (now (rows .entry))) (length (now (weights .entry))) (length (now (elements .entry)))) (unitWeights (operandLen (l .n) (l .m) (l .k) o)) (now (weights .entry)) ⌝ }
+    ensures { λ _. ⌜ now (elements .exit) ≡ leftIn (operandCause (l .n) (l .m) (l .k) o (length (now (starts .entry))) (length (now (rows .entry))) (length (now (weights .entry))) (length (now (elements .entry)))) (selectorElements (operandLen (l .n) (l .m) (l .k) o)) (now (elements .entry)) ⌝ }
+{
+    let check = operand_cause(
+        l,
+        o,
+        starts.len(),
+        rows.len(),
+        weights.len(),
+        elements.len(),
+    );
+    if is_refused(check) {
+        return selected_if(check, 0, 0.0);
+    }
+    let items = operand_count(l.n, l.m, l.k, o);
+    count_from(starts, items + 1, 0);
+    write_rows(l, bytes, o, rows);
+    fill_f64(weights, items, 1.0);
+    count_from(elements, items, 0);
+    Selected::Items {
+        count: items as u64,
+        sign: sign(o),
+    }
+}

@@ -1,0 +1,3 @@
+pub mod Laid
+pub mod Lengths
+pub mod Entry
