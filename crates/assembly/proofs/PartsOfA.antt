@@ -24,7 +24,7 @@ use Rattle.matrix.specs.Columns.{oneCell, nonzeroCell, pgCells, qgCells, wCells
 use Rattle.matrix.proofs.Same.{matrix-columns}
 use Rattle.cells.specs.Ready.{Ready, netOf}
 use Rattle.cells.specs.Columns.{endsFrom, Columns}
-use Rattle.assembly.specs.Writers.{costTurn}
+use Rattle.record_columns.specs.Writers.{costTurn}
 use Rattle.bus_columns.specs.Cells.{cellOf, keyed}
 use Rattle.bus_columns.specs.Buses.{shuntItems, ohmItems, boundItems, coneItems, allOhms, busItems}
 use Rattle.assembly.specs.Parts.{generatorColumns, productColumns, flowColumns, branchColumns, busCount, endCount}

@@ -1,41 +1,15 @@
-// Readings of a branch that the assembly shares with the columns.
+// The coefficients by place.
 use crate::OhmRow;
 use crate::Products;
-use crate::Series;
+use branch::Series;
+use branch::inner::series;
 ghost use mathlib.Core.Path.{_≡_};
 ghost use Prim.Native.Nat.{_+_, _*_, _≤_};
 ghost use lib.ListN.{length};
-ghost use Rattle.records.specs.Fields.{angledOf};
 ghost use Rattle.records.specs.Network.{branchOf};
 ghost use Rattle.rows.specs.Rows.{w, wr, wi};
 ghost use Rattle.matrix.specs.Columns.{ohmValue};
-ghost use Rattle.coefficients.specs.Series.{seriesOf, branchFrom, productsOf, rowKind};
-
-// Whether the angle rows of the branch at record r have entries.
-pub fn conic_angle_bound_active(bytes: &[u8], r: usize) -> bool
-    requires { ⌜ 128 * r + 128 ≤ length (now bytes) ⌝ }
-    ensures { λ x. ⌜ x ≡ angledOf (now (bytes .entry)) r ⌝ }
-{
-    let active = records::inner::angle_bound_active(bytes, r);
-    let angmin = records::inner::angmin(bytes, r);
-    let angmax = records::inner::angmax(bytes, r);
-    active & !((angmin <= -3.141592653589793) & (3.141592653589793 <= angmax))
-}
-
-// The series admittance and the products of tap of the branch at record r.
-pub fn series(bytes: &[u8], r: usize) -> Series
-    requires { ⌜ 128 * r + 128 ≤ length (now bytes) ⌝ }
-    ensures { λ x. ⌜ x ≡ seriesOf (branchOf (now (bytes .entry)) r) ⌝ }
-{
-    let tap = records::inner::tap(bytes, r);
-    Series {
-        g: records::inner::g(bytes, r),
-        b: records::inner::b(bytes, r),
-        tr: tap * records::inner::cos_shift(bytes, r),
-        ti: tap * records::inner::sin_shift(bytes, r),
-        tm2: tap * tap,
-    }
-}
+ghost use Rattle.coefficients.specs.Ohm.{branchFrom, productsOf, rowKind};
 
 // The coefficients of wr and of wi in the four Ohm rows.
 pub fn wr_products(t: Series) -> Products

@@ -1,14 +1,5 @@
-// What the rows of a branch multiply: its series admittance, the products of its tap, the coefficients of its Ohm rows.
+// The coefficients of the Ohm rows of a branch.
 pub mod inner;
-
-// Per branch: the series admittance and the products of tap. tr = tap cosine, ti = tap sine, tm2 = tap tap.
-pub struct Series {
-    pub g: f64,
-    pub b: f64,
-    pub tr: f64,
-    pub ti: f64,
-    pub tm2: f64,
-}
 
 // Coefficients in the four Ohm rows of a branch.
 pub struct Products {

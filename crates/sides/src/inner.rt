@@ -1,5 +1,5 @@
 // q and b: lists of floats.
-use coefficients::inner::conic_angle_bound_active;
+use branch::inner::conic_angle_bound_active;
 use numbering::SocWrLayout;
 ghost use mathlib.Core.Path.{_≡_};
 ghost use mathlib.Core.Bool.{cond};
