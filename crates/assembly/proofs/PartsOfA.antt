@@ -1,10 +1,10 @@
 -- A in the parts in which the code writes it. Assumes nothing.
-use Prim.Native.Nat.{ℕ, _+_, _-_, _*_, _≤_, _<_}
+use Prim.Native.Nat.{ℕ, _+_, _-_, _*_, _≤_}
 use mathlib.Core.Path.{_≡_, refl, sym, ap, _∙_}
 use mathlib.Core.Bool.{Bool, true, false}
-use mathlib.Core.List.{List, [], _∷_, _++_, append-assoc}
+use mathlib.Core.List.{List, _++_, append-assoc}
 use native.Mathlib.Omega.{arith}
-use lib.ListN.{length, length-append, take, drop}
+use lib.ListN.{length, length-append, take, drop, length-map}
 use lib.Seq.{sets-eq}
 use borrow.Rule.Slice.PartMut.{putMid, post-is}
 use lib.Ieee.{Float, ne, neg}
@@ -20,20 +20,21 @@ use Rattle.numbering.specs.Layout.{layoutColumns}
 use Rattle.numbering.specs.declared.SocWrLayout.{SocWrLayout}
 use Rattle.rows.specs.Rows.{zero64, pf, qf, pt, qt, w}
 use Rattle.rows.specs.Program.{matrix}
-use Rattle.matrix.specs.Columns.{oneCell, nonzeroCell, pgCells, qgCells, wCells, wrCells, wiCells, flowCells, costCells, shuntCells, boundCells, ohmCell, ohmValue}
+use Rattle.matrix.specs.Columns.{oneCell, nonzeroCell, pgCells, qgCells, wCells, wrCells, wiCells, flowCells, shuntCells, boundCells, ohmCell, ohmValue}
 use Rattle.matrix.proofs.Same.{matrix-columns}
 use Rattle.cells.specs.Ready.{Ready, netOf}
-use Rattle.cells.specs.Filled.{Filled}
 use Rattle.cells.specs.Columns.{endsFrom, Columns}
-use Rattle.assembly.specs.Writers.{costTurn}
-use Rattle.bus_columns.specs.Deal.{keyed}
+use Rattle.record_columns.specs.Writers.{costTurn}
+use Rattle.bus_columns.specs.Cells.{cellOf, keyed}
 use Rattle.bus_columns.specs.Buses.{shuntItems, ohmItems, boundItems, coneItems, allOhms, busItems}
 use Rattle.assembly.specs.Parts.{generatorColumns, productColumns, flowColumns, branchColumns, busCount, endCount}
 use Rattle.cells.proofs.Fills.{listed-length}
 use Rattle.cells.proofs.Ends.{ends-length}
 use Rattle.cells.proofs.Sizes.{columns-length, nonzero-length}
-use Rattle.bus_columns.proofs.Dealing.{keyed-length, sorted-length}
-use Rattle.bus_columns.proofs.BusColumns.{bus-sorted, items-keyed, pair-keyed, cone-length}
+use Rattle.dealing.specs.Deal.{sorted}
+use Rattle.dealing.proofs.Dealing.{sorted-length}
+use Rattle.bus_columns.proofs.Keys.{keyed-length}
+use Rattle.bus_columns.proofs.BusColumns.{bus-sorted, items-keyed, cone-length}
 
 regroup : {A : Type 0} (a b c d e f g h i j : List A) → a ++ b ++ c ++ d ++ e ++ f ++ g ++ h ++ i ++ j ≡ (a ++ b) ++ c ++ ((d ++ e) ++ (f ++ g ++ h ++ i) ++ j)
 regroup a b c d e f g h i j = simp append-assoc
@@ -88,7 +89,7 @@ module _ (l : SocWrLayout) (bytes : List ℕ) where
 
     -- the bus columns have as many cells as are dealt
     pub bus-cells : length (joined (listed (l .n) (wCells G))) ≡ length (busItems l bytes)
-    bus-cells = ap length (joined-listed (l .n) (wCells G) ∙ sym (bus-sorted l bytes)) ∙ sorted-length (l .n) (busItems l bytes) (items-keyed l bytes ready)
+    bus-cells = ap length (joined-listed (l .n) (wCells G) ∙ sym (bus-sorted l bytes)) ∙ length-map (sorted (l .n) (busItems l bytes)) cellOf ∙ sorted-length (l .n) (items-keyed l bytes ready)
 
     pub matrix-count : length (joined (matrix G)) ≡ length (joined (generatorColumns G)) + length (busItems l bytes) + length (joined (branchColumns G))
     matrix-count =

@@ -9,7 +9,7 @@ use Rattle.records.specs.AcNetwork.{AcNetwork}
 use Rattle.numbering.specs.declared.SocWrLayout.{SocWrLayout}
 use Rattle.rows.specs.Rows.{pf, qf, pt, qt}
 use Rattle.matrix.specs.Columns.{pgCells, qgCells, wrCells, wiCells, flowCells}
-use Rattle.assembly.specs.Writers.{costTurn}
+use Rattle.record_columns.specs.Writers.{costTurn}
 use Rattle.bus_columns.specs.Buses.{shuntItems, ohmItems, boundItems, coneItems}
 
 module _ (G : AcNetwork Float) where

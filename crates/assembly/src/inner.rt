@@ -1,18 +1,17 @@
 // A by compressed columns: its parts one after the other, and their count.
-use crate::branches::put_flows;
-use crate::branches::put_wis;
-use crate::branches::put_wrs;
-use crate::generators::put_costs;
-use crate::generators::put_pgs;
-use crate::generators::put_qgs;
 use bus_columns::inner::put_buses;
 use cells::inner::bit_nonzero;
 use coefficients::OhmRow;
 use coefficients::inner::w_value;
 use lists::inner::store_u32;
 use numbering::SocWrLayout;
+use record_columns::inner::branches::put_flows;
+use record_columns::inner::branches::put_wis;
+use record_columns::inner::branches::put_wrs;
+use record_columns::inner::generators::put_costs;
+use record_columns::inner::generators::put_pgs;
+use record_columns::inner::generators::put_qgs;
 ghost use mathlib.Core.Path.{_≡_};
-ghost use mathlib.Core.List.{_++_};
 ghost use Prim.Native.Nat.{_+_, _*_, _≤_, _<_};
 ghost use lib.ListN.{length};
 ghost use Rattle.lists.specs.UpTo.{listed, sum};
@@ -21,7 +20,6 @@ ghost use Rattle.rows.specs.Program.{matrix};
 ghost use Rattle.matrix.specs.Columns.{wCells};
 ghost use Rattle.cells.specs.Ready.{Ready, netOf};
 ghost use Rattle.cells.specs.Columns.{Columns, Whole};
-ghost use Rattle.bus_columns.specs.Buses.{busItems};
 ghost use Rattle.assembly.specs.Parts.{generatorColumns, productColumns, flowColumns, branchColumns, busCount, endCount, mostA};
 
 // The pg and qg columns.

@@ -1,4 +1,2 @@
 // The writers of A.
-mod branches;
-mod generators;
 pub mod inner;

@@ -1,3 +1,2 @@
-pub mod Deal
+pub mod Cells
 pub mod Buses
-pub mod Cursors

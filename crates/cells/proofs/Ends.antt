@@ -1,7 +1,7 @@
 -- Laws of columns and their ends. Assumes nothing.
-use Prim.Native.Nat.{ℕ, zero, suc, _+_, _≤_, _<_}
+use Prim.Native.Nat.{ℕ, zero, suc, _+_, _≤_}
 use mathlib.Core.Path.{_≡_, refl, sym, ap, _∙_}
-use mathlib.Core.List.{List, [], _∷_, _++_, append-assoc, append-nil, map}
+use mathlib.Core.List.{List, [], _∷_, _++_, map}
 use native.Mathlib.Nat.{add-zero, zero-add}
 use native.Mathlib.Omega.{arith}
 use lib.ListN.{length, set, length-append, length-map}
@@ -9,7 +9,7 @@ use lib.Seq.{sets}
 use lib.Ieee.{Float}
 use Rattle.lists.specs.UpTo.{upTo, each, listed, overlay}
 use Rattle.lists.specs.Entries.{Cell, cellRow, cellVal}
-use Rattle.lists.specs.Compressed.{CellOut, cellOut, writeCells, WroteCells, posOf, joined, startsFrom}
+use Rattle.lists.specs.Compressed.{CellOut, cellOut, WroteCells, posOf, joined, startsFrom}
 use Rattle.lists.proofs.Each.{each-more, each-nil}
 use Rattle.lists.proofs.Written.{overlaid}
 use Rattle.lists.proofs.Compressed.{writeCells-pos, rows-sets, vals-sets, rowsOf, valsOf, then, wrote-none, joined-append, joined-one, joined-listed}

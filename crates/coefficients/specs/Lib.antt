@@ -1,1 +1,1 @@
-pub mod Series
+pub mod Ohm

@@ -1,4 +1,4 @@
-// The coefficients from the struct of five floats, or from the record.
+// The coefficients by place.
 use crate::OhmRow;
 use crate::Products;
 use branch::Series;
@@ -9,7 +9,7 @@ ghost use lib.ListN.{length};
 ghost use Rattle.records.specs.Network.{branchOf};
 ghost use Rattle.rows.specs.Rows.{w, wr, wi};
 ghost use Rattle.matrix.specs.Columns.{ohmValue};
-ghost use Rattle.coefficients.specs.Series.{branchFrom, productsOf, rowKind};
+ghost use Rattle.coefficients.specs.Ohm.{branchFrom, productsOf, rowKind};
 
 // The coefficients of wr and of wi in the four Ohm rows.
 pub fn wr_products(t: Series) -> Products

@@ -1,4 +1,4 @@
-// The coefficients of a branch's Ohm rows.
+// The coefficients of the Ohm rows of a branch.
 pub mod inner;
 
 // Coefficients in the four Ohm rows of a branch.

@@ -1,17 +1,17 @@
 -- What the entries answer. Assumes nothing.
-use Prim.Native.Nat.{ℕ, _+_, _≤_, _<_}
+use Prim.Native.Nat.{ℕ, _≤_, _<_}
 use mathlib.Core.Path.{_≡_, refl, sym, ap, subst, _∙_}
-use mathlib.Core.Bool.{Bool, true, false}
-use mathlib.Core.List.{List, map}
+use mathlib.Core.Bool.{true}
+use mathlib.Core.List.{List}
 use native.Mathlib.Omega.{arith}
 use borrow.Author.Tests.{le-leb, lt-leb}
-use lib.Dec.{leb, T}
+use lib.Dec.{T}
 use lib.ListN.{length}
 use lib.Ieee.{Float}
 use Rattle.lists.specs.UpTo.{overlay}
-use Rattle.lists.specs.Entries.{Cell, cellRow, cellVal}
+use Rattle.lists.specs.Entries.{Cell}
 use Rattle.lists.specs.Compressed.{joined, startsFrom}
-use Rattle.refusals.specs.Refusals.{_orElse_, isRefused, refuseUnless, writtenIf, leftIn}
+use Rattle.refusals.specs.Refusals.{_orElse_, isRefused, roomFor, writtenIf}
 use Rattle.refusals.specs.declared.Refusal.the-variants.{OutputTooShort}
 use Rattle.refusals.specs.declared.Checked.{Checked}
 use Rattle.refusals.specs.declared.Checked.the-variants.{Accepted, Refused}
@@ -25,7 +25,7 @@ use Rattle.numbering.specs.Layout.{layoutOf}
 use Rattle.numbering.proofs.Layouts.{accepted-range}
 use Rattle.numbering.specs.declared.SocWrLayout.{SocWrLayout}
 use Rattle.cells.specs.Ready.{Ready, netOf}
-use Rattle.program.specs.Answered.{roomCause, floatsCheck, FloatsWritten, columnsCheck, ColumnsWritten}
+use Rattle.program.specs.Answered.{floatsCheck, FloatsWritten, columnsCheck, ColumnsWritten}
 use Rattle.cells.specs.Columns.{Whole}
 use Rattle.cells.proofs.Ends.{whole-count, whole-starts, whole-rows, whole-vals}
 
@@ -40,12 +40,10 @@ module _ (n m k s : ℕ) (b : List ℕ) {l : SocWrLayout} where
 
 -- ---- rooms
 
-room-held : {need have : ℕ} → need ≤ have → roomCause need have ≡ Accepted
-unfolding roomCause
+room-held : {need have : ℕ} → need ≤ have → roomFor need have ≡ Accepted
 room-held {need} {have} h = held _ _ (le-leb need have h)
 
-room-short : {need have : ℕ} → have < need → roomCause need have ≡ Refused (OutputTooShort need)
-unfolding roomCause
+room-short : {need have : ℕ} → have < need → roomFor need have ≡ Refused (OutputTooShort need)
 room-short {need} {have} h = failed _ _ (lt-leb need have h)
 
 written-refused : (c : Checked) (p q : ℕ) → isRefused c ≡ true → writtenIf c p ≡ writtenIf c q
@@ -60,20 +58,20 @@ module _ {check : Checked} {xs ys₀ : List Float} where
   unfolding floatsCheck
   floats-refused {c} e h q =
       let w : isRefused check ≡ true = rw (← e) h in
-      let o = orElse-refused check (roomCause (length xs) (length ys₀)) w in
+      let o = orElse-refused check (roomFor (length xs) (length ys₀)) w in
       record { answer = q ∙ rw (o, ← e) (written-refused c 0 (length xs) h); left = sym (rw o (left-refused check xs ys₀ w)) }
 
   pub floats-short : {need : ℕ} → check ≡ Accepted → need ≡ length xs → length ys₀ < need → FloatsWritten check xs ys₀ ys₀ (Written.Refused (OutputTooShort need))
   unfolding floatsCheck
   floats-short {need} e p h =
       let l : length ys₀ < length xs = omega arith in
-      let o : check orElse roomCause (length xs) (length ys₀) ≡ Refused (OutputTooShort (length xs)) = rw (e, accepted-first) (room-short l) in
+      let o : check orElse roomFor (length xs) (length ys₀) ≡ Refused (OutputTooShort (length xs)) = rw (e, accepted-first) (room-short l) in
       record { answer = rw p (sym (count-refused (length xs) o)); left = sym (left-alone xs ys₀ o) }
 
   pub floats-written : {need : ℕ} {ys : List Float} → check ≡ Accepted → need ≡ length xs → length xs ≤ length ys₀ → ys ≡ overlay xs ys₀ → FloatsWritten check xs ys₀ ys (Written.Count need)
   unfolding floatsCheck
   floats-written {need} e p h q =
-      let o : check orElse roomCause (length xs) (length ys₀) ≡ Accepted = rw (e, accepted-first) (room-held h) in
+      let o : check orElse roomFor (length xs) (length ys₀) ≡ Accepted = rw (e, accepted-first) (room-held h) in
       record { answer = rw p (sym (count-written (length xs) o)); left = q ∙ sym (left-written xs ys₀ o) }
 
 -- ---- compressed columns

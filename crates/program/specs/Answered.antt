@@ -2,36 +2,30 @@
 use Prim.Native.Nat.{ℕ}
 use mathlib.Core.Path.{_≡_}
 use mathlib.Core.List.{List, map}
-use lib.Dec.{leb}
 use lib.ListN.{length}
 use lib.Ieee.{Float}
 use Rattle.lists.specs.Entries.{Cell, cellRow, cellVal}
 use Rattle.lists.specs.Compressed.{joined, startsFrom}
-use Rattle.refusals.specs.Refusals.{_orElse_, refuseUnless, writtenIf, leftIn}
+use Rattle.refusals.specs.Refusals.{_orElse_, roomFor, writtenIf, leftIn}
 use Rattle.refusals.specs.declared.Checked.{Checked}
-use Rattle.refusals.specs.declared.Refusal.the-variants.{OutputTooShort}
 use Rattle.refusals.specs.declared.Written.{Written}
 
--- 10 "an output slice too short", "length needed by the first short one"
-unfoldable pub roomCause : (need have : ℕ) → Checked
-roomCause need have = refuseUnless (leb need have) (OutputTooShort need)
-
--- one list of floats
+-- one list of floats; 10: "an output slice too short"
 unfoldable pub floatsCheck : Checked → List Float → List Float → Checked
-floatsCheck check xs ys = check orElse roomCause (length xs) (length ys)
+floatsCheck check xs ys = check orElse roomFor (length xs) (length ys)
 
 pub record FloatsWritten (check : Checked) (xs ys₀ ys : List Float) (r : Written) : Type 0 where
   pub answer : r ≡ writtenIf (floatsCheck check xs ys₀) (length xs)
   pub left : ys ≡ leftIn (floatsCheck check xs ys₀) xs ys₀
 
--- compressed columns: "Output lists come as starts, rows, columns, values"; "Number 10 states the exact count of entries where entries
--- are written"
+-- compressed columns: "Output lists come as starts, rows, columns, values"; "length needed by the first short one"; "Number 10 states the
+-- exact count of entries where entries are written"
 unfoldable pub columnsCheck : Checked → List (List Cell) → List ℕ → List ℕ → List Float → Checked
 columnsCheck check cs ss rs vs =
     check
-    orElse roomCause (length (startsFrom 0 cs)) (length ss)
-    orElse roomCause (length (joined cs)) (length rs)
-    orElse roomCause (length (joined cs)) (length vs)
+    orElse roomFor (length (startsFrom 0 cs)) (length ss)
+    orElse roomFor (length (joined cs)) (length rs)
+    orElse roomFor (length (joined cs)) (length vs)
 
 pub record ColumnsWritten (check : Checked) (cs : List (List Cell)) (ss₀ rs₀ : List ℕ) (vs₀ : List Float) (ss rs : List ℕ) (vs : List Float) (r : Written) : Type 0 where
   pub answer : r ≡ writtenIf (columnsCheck check cs ss₀ rs₀ vs₀) (length (joined cs))

@@ -1,7 +1,6 @@
 // P, q, A and b of the SOCWR program (the Rust's `ProgramBuilder` and `assemble_conic_opf`), from counts and records.
 use refusals::Refusal;
 use refusals::Written;
-ghost use lib.ListN.{length};
 ghost use Rattle.records.specs.Check.{checkOf};
 ghost use Rattle.records.specs.Network.{networkOf};
 ghost use Rattle.rows.specs.Program.{linear, matrix};

@@ -1,13 +1,13 @@
 -- P by columns, in the parts in which the code writes it. Assumes nothing.
-use Prim.Native.Nat.{ℕ, zero, suc, _+_, _*_, _≤_, _<_}
-use mathlib.Core.Path.{_≡_, refl, sym, ap, _∙_}
+use Prim.Native.Nat.{ℕ, _+_, _*_, _≤_, _<_}
+use mathlib.Core.Path.{_≡_, sym, ap, _∙_}
 use mathlib.Core.List.{List, [], _∷_, _++_, append-nil}
 use native.Mathlib.Omega.{arith}
 use lib.Dec.{eqb}
-use lib.ListN.{length, length-append}
+use lib.ListN.{length}
 use lib.Ieee.{Float, ne}
 use borrow.Author.Tests.{ne-eqb}
-use Rattle.lists.specs.UpTo.{upTo, each, listed, when, bit, sum}
+use Rattle.lists.specs.UpTo.{each, listed, when}
 use Rattle.lists.specs.Entries.{Cell, entry, select}
 use Rattle.lists.specs.Compressed.{joined, startsFrom}
 use Rattle.lists.proofs.Each.{each-ext, each-split, each-none, each-at-when, each-nil, when-nil}
@@ -19,7 +19,7 @@ use Rattle.numbering.specs.Numbering.{nvar, columnNumber}
 use Rattle.numbering.specs.declared.SocWrLayout.{SocWrLayout}
 use Rattle.numbering.specs.declared.ColumnName.the-variants.{Pg}
 use Rattle.rows.specs.Rows.{zero64}
-use Rattle.rows.specs.Program.{quadratic, nonzero}
+use Rattle.rows.specs.Program.{quadratic}
 use Rattle.matrix.specs.Lists.{quadraticMatrix}
 use Rattle.matrix.specs.Columns.{oneCell, nonzeroCell}
 use Rattle.matrix.proofs.Same.{select-each, select-when}

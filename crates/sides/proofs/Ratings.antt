@@ -6,7 +6,7 @@ use mathlib.Core.List.{List}
 use native.Mathlib.Omega.{arith}
 use lib.ListN.{length}
 use lib.Ieee.{Float}
-use Rattle.lists.specs.UpTo.{each, when, bit, sum}
+use Rattle.lists.specs.UpTo.{each, when, bit}
 use Rattle.lists.proofs.Each.{each-next}
 use Rattle.lists.proofs.Sums.{each-length, sum-ext, sum-mul}
 use Rattle.numbering.specs.declared.SocWrLayout.{SocWrLayout}

@@ -1,8 +1,8 @@
 -- b and q in the parts in which the code writes them. Assumes nothing.
-use Prim.Native.Nat.{ℕ, zero, suc, _+_, _*_, _<_, _≤_}
+use Prim.Native.Nat.{ℕ, zero, suc, _+_, _*_}
 use mathlib.Core.Path.{_≡_, refl, sym, ap, _∙_}
 use mathlib.Core.Bool.{Bool, true, false}
-use mathlib.Core.List.{List, [], _∷_, _++_, append-assoc, append-nil}
+use mathlib.Core.List.{List, [], _∷_, _++_, append-assoc}
 use native.Mathlib.Nat.{mul-add, mul-one}
 use native.Mathlib.Omega.{arith}
 use lib.ListN.{length, length-append}
@@ -13,9 +13,9 @@ use Rattle.records.specs.Fields.{interceptOf}
 use Rattle.records.specs.Network.{segmentRecord}
 use Rattle.numbering.specs.Blocks.{total}
 use Rattle.numbering.specs.Layout.{layoutRows, layoutColumns}
-use Rattle.numbering.specs.Numbering.{nvar, ncon}
+use Rattle.numbering.specs.Numbering.{ncon}
 use Rattle.numbering.specs.declared.SocWrLayout.{SocWrLayout}
-use Rattle.numbering.specs.declared.RowName.the-variants.{Segment, Jabr, Thermal}
+use Rattle.numbering.specs.declared.RowName.the-variants.{Segment}
 use Rattle.rows.specs.Ops.{rounded}
 use Rattle.rows.specs.Rows.{b, zero64}
 use Rattle.rows.specs.Program.{linear}

@@ -1,5 +1,5 @@
 -- P as the code writes it.
-use Prim.Native.Nat.{ℕ, _+_}
+use Prim.Native.Nat.{ℕ}
 use mathlib.Core.List.{List}
 use lib.Ieee.{Float, binary64, mul, ne}
 use Rattle.lists.specs.UpTo.{bit, sum}

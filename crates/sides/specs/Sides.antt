@@ -1,15 +1,12 @@
 -- The blocks of rows that a loop over buses, generators or branches fills: `Numbering.rowNames` has their names by number.
 use Prim.Native.Nat.{ℕ, _+_, _*_}
-use mathlib.Core.Bool.{Bool}
 use mathlib.Core.List.{List, [], _∷_, _++_}
 use lib.Ieee.{Float, binary64, neg, add}
 use Rattle.lists.specs.UpTo.{each, listed, when}
-use Rattle.records.specs.AcNetwork.{AcNetwork}
 use Rattle.records.specs.Fields.{interceptOf}
 use Rattle.numbering.specs.Blocks.{key}
 use Rattle.numbering.specs.Numbering.{rowOf}
 use Rattle.numbering.specs.declared.SocWrLayout.{SocWrLayout}
-use Rattle.rows.specs.Ops.{rounded}
 use Rattle.rows.specs.Rows.{b, zero64}
 use Rattle.cells.specs.Ready.{netOf}
 

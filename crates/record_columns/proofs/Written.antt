@@ -1,0 +1,88 @@
+-- The code's cells are the columns' cells. Assumes nothing.
+use Prim.Native.Nat.{ℕ, _+_, _*_, _≤_, _<_}
+use mathlib.Core.Path.{_≡_, refl, ap}
+use mathlib.Core.Bool.{Bool, true, false}
+use mathlib.Core.List.{List, [], _∷_}
+use native.Mathlib.Omega.{arith}
+use lib.ListN.{length}
+use lib.Ieee.{Float}
+use Rattle.lists.specs.UpTo.{each, when, sum, bit, count}
+use Rattle.lists.specs.Compressed.{CellOut}
+use Rattle.lists.proofs.Each.{each-ext}
+use Rattle.lists.proofs.Sums.{sum-mono, sum-next, bit-le}
+use Rattle.records.specs.AcNetwork.{AcNetwork}
+use Rattle.records.specs.Fields.{slopeOf}
+use Rattle.records.specs.Network.{segmentRecord}
+use Rattle.numbering.specs.Blocks.{before}
+use Rattle.numbering.specs.Layout.{layoutRows}
+use Rattle.numbering.specs.Numbering.{rowNumber}
+use Rattle.numbering.specs.declared.SocWrLayout.{SocWrLayout}
+use Rattle.numbering.specs.declared.RowName.the-variants.{Segment, Thermal}
+use Rattle.rows.specs.Rows.{wr, wi, minusOne, constant64}
+use Rattle.matrix.specs.Columns.{ohmValue, nonzeroCell, oneCell, slopeCell, costCell, costCells, ohmCells}
+use Rattle.branch.specs.declared.Series.{Series}
+use Rattle.coefficients.specs.declared.Products.{Products}
+use Rattle.cells.specs.Ready.{Ready, netOf}
+use Rattle.cells.specs.Columns.{Columns}
+use Rattle.cells.proofs.Ends.{columns-turn}
+use Rattle.branch.specs.Series.{seriesOf}
+use Rattle.coefficients.specs.Ohm.{branchFrom, productsOf}
+use Rattle.record_columns.specs.Writers.{slopes, ones, products, costTurn}
+
+one-or-none : {A : Type 0} (b : Bool) (x : A) → length (when b (x ∷ [])) ≡ bit b
+one-or-none true x = refl
+one-or-none false x = refl
+
+module _ (l : SocWrLayout) (bytes : List ℕ) where
+  abbrev G : AcNetwork Float
+  G = netOf l bytes
+
+  -- a generator's segments start behind those of the generators before it
+  pub slopes-are : (g : ℕ) {first row n : ℕ} → first ≡ l .n + l .m + l .k + sum g (G .segments) → row ≡ before (layoutRows l) 14 + sum g (G .segments) → n ≡ G .segments g
+      → each n (slopes bytes first row) ≡ each (G .segments g) (slopeCell G g)
+  unfolding slopes slopeCell segmentRecord
+  slopes-are g p q e =
+      rw (p, q, e) (each-ext _ _ (G .segments g)
+      (λ t h.
+      let r : before (layoutRows l) 14 + sum g (G .segments) + t ≡ rowNumber G (Segment g t) = omega arith in
+      ap (λ (x : ℕ). nonzeroCell x (slopeOf bytes (l .n + l .m + l .k + sum g (G .segments) + t))) r))
+
+  pub costs-are : (g : ℕ) {row n : ℕ} → row ≡ before (layoutRows l) 14 + sum g (G .segments) → n ≡ G .segments g → each n (ones row) ≡ costCells G g
+  unfolding ones costCells costCell
+  costs-are g q e =
+      rw (q, e) (each-ext _ _ (G .segments g)
+      (λ t h.
+      let r : before (layoutRows l) 14 + sum g (G .segments) + t ≡ rowNumber G (Segment g t) = omega arith in
+      ap (λ (x : ℕ). oneCell x (constant64 minusOne)) r))
+
+  pub turn-length : (g : ℕ) → length (costTurn G g) ≡ bit (G .piecewise g)
+  unfolding costTurn
+  turn-length g = one-or-none (G .piecewise g) (costCells G g)
+
+  pub turn-le : (g : ℕ) → length (costTurn G g) ≤ 1
+  turn-le g = omega (arith, turn-length g, bit-le (G .piecewise g))
+
+  -- one generator more
+  pub turned : (g : ℕ) {c₀ c : ℕ} {ss₀ ss ss′ : List ℕ} {o o′ o″ : CellOut} → Columns (each g (costTurn G)) c₀ ss₀ o ss o′ → c ≡ c₀ + length (each g (costTurn G))
+      → Columns (when (G .piecewise g) (costCells G g ∷ [])) c ss o′ ss′ o″ → Columns (each (g + 1) (costTurn G)) c₀ ss₀ o ss′ o″
+  unfolding costTurn
+  turned g h e k = columns-turn (costTurn G) h e k
+
+  pub wr-are : (e : ℕ) {p : Products} {x : Series} → p ≡ productsOf (branchFrom x) wr → x ≡ seriesOf (G .branch e) → products G e p ≡ ohmCells G wr e
+  unfolding products ohmCells ohmValue
+  wr-are e p q = rw (p, q)
+
+  pub wi-are : (e : ℕ) {p : Products} {x : Series} → p ≡ productsOf (branchFrom x) wi → x ≡ seriesOf (G .branch e) → products G e p ≡ ohmCells G wi e
+  unfolding products ohmCells ohmValue
+  wi-are e p q = rw (p, q)
+
+  module _ (ready : Ready l bytes) where
+    -- the segments up to a generator's are among all
+    pub segments-below : (g : ℕ) → g ≤ l .k → sum g (G .segments) ≤ l .s
+    segments-below g h = omega (arith, sum-mono g (l .k) (G .segments) h, ready .accepted .counts-add)
+
+    pub segments-next : (g : ℕ) → g < l .k → sum g (G .segments) + G .segments g ≤ l .s
+    segments-next g h = omega (arith, segments-below (g + 1) (omega arith), sum-next g (G .segments))
+
+    pub thermal-row : (e q : ℕ) → before (layoutRows l) 16 + 6 * count e (G .limited) + q ≡ rowNumber G (Thermal e q)
+    thermal-row e q = omega (arith, ready .accepted .counts-add)

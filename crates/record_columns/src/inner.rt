@@ -1,0 +1,3 @@
+// The writers by kind of record.
+pub mod branches;
+pub mod generators;

@@ -1,0 +1,280 @@
+// The branch columns of A.
+use super::generators::put_bounds;
+use branch::inner::conic_angle_bound_active;
+use branch::inner::series;
+use bus_columns::inner::end_bus;
+use bus_columns::inner::ohm_row;
+use cells::inner::put;
+use cells::inner::put_if;
+use cells::inner::put_nonzero;
+use coefficients::OhmRow;
+use coefficients::Products;
+use coefficients::inner::wi_products;
+use coefficients::inner::wr_products;
+use lists::inner::store_u32;
+use numbering::SocWrLayout;
+ghost use mathlib.Core.Path.{_≡_};
+ghost use Prim.Native.Nat.{_+_, _*_, _≤_, _<_};
+ghost use Rattle.lists.specs.UpTo as UpTo;
+ghost use Rattle.lists.specs.UpTo.{listed, count};
+ghost use Rattle.lists.specs.Compressed.{cellOut, WroteCells};
+ghost use Rattle.numbering.specs.Numbering.{rowNumber};
+ghost use Rattle.matrix.specs.Columns.{wrCells, wiCells, flowCells, balanceRow, thermalPlace};
+ghost use Rattle.cells.specs.Ready.{Ready, netOf};
+ghost use Rattle.coefficients.specs.Ohm.{rowKind};
+ghost use Rattle.cells.specs.Columns.{Columns};
+ghost use Rattle.record_columns.specs.Writers.{wrAngles, products, flow};
+
+// The four Ohm rows of branch e.
+fn put_products(
+    rows: &mut [u32],
+    vals: &mut [f64],
+    at: usize,
+    l: SocWrLayout,
+    bytes: &[u8],
+    e: usize,
+    p: Products,
+) -> usize
+    requires { ⌜ Ready l (now bytes) ⌝ }
+    requires { ⌜ (e < l .m) × (at < 1000000) ⌝ }
+    ensures { λ x. ⌜ WroteCells (products (netOf l (now (bytes .entry))) e p) (cellOut (now (rows .entry)) (now (vals .entry)) at) (cellOut (now (rows .exit)) (now (vals .exit)) x) ⌝ }
+    ensures { λ x. ⌜ x ≤ at + 4 ⌝ }
+{
+    let r1 = numbering::inner::r_ohm_pf(l, e);
+    let r2 = numbering::inner::r_ohm_qf(l, e);
+    let r3 = numbering::inner::r_ohm_pt(l, e);
+    let r4 = numbering::inner::r_ohm_qt(l, e);
+    let a1 = put_nonzero(rows, vals, at, r1, p.pf);
+    let a2 = put_nonzero(rows, vals, a1, r2, p.qf);
+    let a3 = put_nonzero(rows, vals, a2, r3, p.pt);
+    put_nonzero(rows, vals, a3, r4, p.qt)
+}
+
+// The angle rows in the wr column. The tangents are read only where the rows are active.
+fn put_wr_angles(
+    rows: &mut [u32],
+    vals: &mut [f64],
+    at: usize,
+    l: SocWrLayout,
+    bytes: &[u8],
+    e: usize,
+) -> usize
+    requires { ⌜ Ready l (now bytes) ⌝ }
+    requires { ⌜ (e < l .m) × (at < 1100000) ⌝ }
+    ensures { λ x. ⌜ WroteCells (wrAngles (netOf l (now (bytes .entry))) e) (cellOut (now (rows .entry)) (now (vals .entry)) at) (cellOut (now (rows .exit)) (now (vals .exit)) x) ⌝ }
+    ensures { λ x. ⌜ x ≤ at + 2 ⌝ }
+{
+    let r = l.n + e;
+    if conic_angle_bound_active(bytes, r) {
+        let upper = numbering::inner::r_angub(l, e);
+        let lower = numbering::inner::r_anglb(l, e);
+        let tmax = records::inner::tan_angmax(bytes, r);
+        let tmin = records::inner::tan_angmin(bytes, r);
+        let next = put_nonzero(rows, vals, at, upper, -tmax);
+        return put_nonzero(rows, vals, next, lower, tmin);
+    }
+    at
+}
+
+fn put_wr(
+    rows: &mut [u32],
+    vals: &mut [f64],
+    at: usize,
+    l: SocWrLayout,
+    bytes: &[u8],
+    e: usize,
+) -> usize
+    requires { ⌜ Ready l (now bytes) ⌝ }
+    requires { ⌜ (e < l .m) × (at < 1000000) ⌝ }
+    ensures { λ x. ⌜ WroteCells (wrCells (netOf l (now (bytes .entry))) e) (cellOut (now (rows .entry)) (now (vals .entry)) at) (cellOut (now (rows .exit)) (now (vals .exit)) x) ⌝ }
+    ensures { λ x. ⌜ x ≤ at + 7 ⌝ }
+{
+    let record = l.n + e;
+    let p = wr_products(series(bytes, record));
+    let cone = numbering::inner::r_jabr(l, e) + 1;
+    let a1 = put_products(rows, vals, at, l, bytes, e, p);
+    let a2 = put_wr_angles(rows, vals, a1, l, bytes, e);
+    put(rows, vals, a2, cone, -1.0)
+}
+
+fn put_wi(
+    rows: &mut [u32],
+    vals: &mut [f64],
+    at: usize,
+    l: SocWrLayout,
+    bytes: &[u8],
+    e: usize,
+) -> usize
+    requires { ⌜ Ready l (now bytes) ⌝ }
+    requires { ⌜ (e < l .m) × (at < 1000000) ⌝ }
+    ensures { λ x. ⌜ WroteCells (wiCells (netOf l (now (bytes .entry))) e) (cellOut (now (rows .entry)) (now (vals .entry)) at) (cellOut (now (rows .exit)) (now (vals .exit)) x) ⌝ }
+    ensures { λ x. ⌜ x ≤ at + 7 ⌝ }
+{
+    let record = l.n + e;
+    let p = wi_products(series(bytes, record));
+    let on = conic_angle_bound_active(bytes, record);
+    let upper = numbering::inner::r_angub(l, e);
+    let lower = numbering::inner::r_anglb(l, e);
+    let cone = numbering::inner::r_jabr(l, e) + 2;
+    let a1 = put_products(rows, vals, at, l, bytes, e, p);
+    let a2 = put_bounds(rows, vals, a1, on, upper, lower);
+    put(rows, vals, a2, cone, -1.0)
+}
+
+pub fn put_wrs(
+    starts: &mut [u32],
+    rows: &mut [u32],
+    vals: &mut [f64],
+    at: usize,
+    l: SocWrLayout,
+    bytes: &[u8],
+) -> usize
+    requires { ⌜ Ready l (now bytes) ⌝ }
+    requires { ⌜ at < 600000 ⌝ }
+    ensures { λ x. ⌜ Columns (listed (l .m) (wrCells (netOf l (now (bytes .entry))))) (2 * l .k + l .n) (now (starts .entry)) (cellOut (now (rows .entry)) (now (vals .entry)) at) (now (starts .exit)) (cellOut (now (rows .exit)) (now (vals .exit)) x) ⌝ }
+    ensures { λ x. ⌜ x ≤ at + 7 * l .m ⌝ }
+{
+    let m = l.m;
+    let col = 2 * l.k + l.n;
+    let mut next = at;
+    let mut e = 0;
+    while e < m {
+        next = put_wr(rows, vals, next, l, bytes, e);
+        store_u32(starts, col + e + 1, next as u32);
+        e += 1;
+    }
+    next
+}
+
+pub fn put_wis(
+    starts: &mut [u32],
+    rows: &mut [u32],
+    vals: &mut [f64],
+    at: usize,
+    l: SocWrLayout,
+    bytes: &[u8],
+) -> usize
+    requires { ⌜ Ready l (now bytes) ⌝ }
+    requires { ⌜ at < 600000 ⌝ }
+    ensures { λ x. ⌜ Columns (listed (l .m) (wiCells (netOf l (now (bytes .entry))))) (2 * l .k + l .n + l .m) (now (starts .entry)) (cellOut (now (rows .entry)) (now (vals .entry)) at) (now (starts .exit)) (cellOut (now (rows .exit)) (now (vals .exit)) x) ⌝ }
+    ensures { λ x. ⌜ x ≤ at + 7 * l .m ⌝ }
+{
+    let m = l.m;
+    let col = 2 * l.k + l.n + l.m;
+    let mut next = at;
+    let mut e = 0;
+    while e < m {
+        next = put_wi(rows, vals, next, l, bytes, e);
+        store_u32(starts, col + e + 1, next as u32);
+        e += 1;
+    }
+    next
+}
+
+// The balance row that a flow leaves by, and its place among a limited branch's rows.
+fn balance_row(q: OhmRow, l: SocWrLayout, bytes: &[u8], i: usize) -> u32
+    requires { ⌜ Ready l (now bytes) ⌝ }
+    requires { ⌜ i < l .n ⌝ }
+    ensures { λ r. ⌜ r ≡ rowNumber (netOf l (now (bytes .entry))) (balanceRow (rowKind q) i) ⌝ }
+{
+    match q {
+        OhmRow::Pf => numbering::inner::r_pbal(l, i),
+        OhmRow::Qf => numbering::inner::r_qbal(l, i),
+        OhmRow::Pt => numbering::inner::r_pbal(l, i),
+        OhmRow::Qt => numbering::inner::r_qbal(l, i),
+    }
+}
+
+fn thermal_place(q: OhmRow) -> u32
+    ensures { λ r. ⌜ r ≡ thermalPlace (rowKind q) ⌝ }
+    ensures { λ r. ⌜ r < 6 ⌝ }
+{
+    match q {
+        OhmRow::Pf => 1,
+        OhmRow::Qf => 2,
+        OhmRow::Pt => 4,
+        OhmRow::Qt => 5,
+    }
+}
+
+fn put_flow_cells(
+    rows: &mut [u32],
+    vals: &mut [f64],
+    at: usize,
+    balance: u32,
+    ohm: u32,
+    on: bool,
+    thermal: u32,
+) -> usize
+    requires { ⌜ at < 2000000 ⌝ }
+    ensures { λ x. ⌜ WroteCells (flow balance ohm on thermal) (cellOut (now (rows .entry)) (now (vals .entry)) at) (cellOut (now (rows .exit)) (now (vals .exit)) x) ⌝ }
+    ensures { λ x. ⌜ x ≤ at + 3 ⌝ }
+{
+    let a1 = put(rows, vals, at, balance, -1.0);
+    let a2 = put(rows, vals, a1, ohm, 1.0);
+    put_if(rows, vals, a2, on, thermal, -1.0)
+}
+
+// The column of a flow of branch e, which rank limited branches come before.
+fn put_flow(
+    rows: &mut [u32],
+    vals: &mut [f64],
+    at: usize,
+    l: SocWrLayout,
+    bytes: &[u8],
+    q: OhmRow,
+    e: usize,
+    rank: usize,
+) -> usize
+    requires { ⌜ Ready l (now bytes) ⌝ }
+    requires { ⌜ (e < l .m) × (at < 1000000) ⌝ }
+    requires { ⌜ (rank ≡ count e (netOf l (now bytes) .limited)) × (rank ≤ e) ⌝ }
+    ensures { λ x. ⌜ WroteCells (flowCells (netOf l (now (bytes .entry))) (rowKind q) e) (cellOut (now (rows .entry)) (now (vals .entry)) at) (cellOut (now (rows .exit)) (now (vals .exit)) x) ⌝ }
+    ensures { λ x. ⌜ x ≤ at + 3 ⌝ }
+{
+    let base = numbering::inner::thermal_base(l) + 6 * (rank as u32);
+    let thermal = base + thermal_place(q);
+    let on = records::inner::thermal_limit_active(bytes, l.n + e);
+    let bus = end_bus(q, l, bytes, e);
+    let balance = balance_row(q, l, bytes, bus);
+    let ohm = ohm_row(q, l, bytes, e);
+    put_flow_cells(rows, vals, at, balance, ohm, on, thermal)
+}
+
+fn bit(on: bool) -> usize
+    ensures { λ r. ⌜ r ≡ UpTo.bit on ⌝ }
+{
+    if on {
+        return 1;
+    }
+    0
+}
+
+// The columns of one flow, from column col on.
+pub fn put_flows(
+    starts: &mut [u32],
+    rows: &mut [u32],
+    vals: &mut [f64],
+    col: usize,
+    at: usize,
+    l: SocWrLayout,
+    bytes: &[u8],
+    q: OhmRow,
+) -> usize
+    requires { ⌜ Ready l (now bytes) ⌝ }
+    requires { ⌜ (at < 900000) × (col < 900000) ⌝ }
+    ensures { λ x. ⌜ Columns (listed (l .m) (flowCells (netOf l (now (bytes .entry))) (rowKind q))) col (now (starts .entry)) (cellOut (now (rows .entry)) (now (vals .entry)) at) (now (starts .exit)) (cellOut (now (rows .exit)) (now (vals .exit)) x) ⌝ }
+    ensures { λ x. ⌜ x ≤ at + 3 * l .m ⌝ }
+{
+    let m = l.m;
+    let mut next = at;
+    let mut rank = 0;
+    let mut e = 0;
+    while e < m {
+        next = put_flow(rows, vals, next, l, bytes, q, e, rank);
+        store_u32(starts, col + e + 1, next as u32);
+        rank += bit(records::inner::thermal_limit_active(bytes, l.n + e));
+        e += 1;
+    }
+    next
+}
