@@ -6,7 +6,6 @@ use mathlib.Core.List.{List, map}
 use native.Mathlib.Omega.{arith}
 use native.Mathlib.Nat.{zero-add}
 use borrow.Author.Tests.{le-leb}
-use lib.Dec.{T}
 use lib.ListN.{length, length-append}
 use lib.Ieee.{Float}
 use Rattle.lists.specs.Entries.{Entry, rowOf, colOf, valOf}
@@ -15,10 +14,10 @@ use Rattle.lists.proofs.Sums.{each-length, sum-ones, sum-le}
 use Rattle.lists.proofs.Written.{pos, rows-front, cols-front, vals-front}
 use Rattle.refusals.specs.Refusals.{_orElse_, isRefused, roomFor, writtenIf, leftIn}
 use Rattle.refusals.specs.declared.Checked.{Checked}
-use Rattle.refusals.specs.declared.Checked.the-variants.{Accepted, Refused}
+use Rattle.refusals.specs.declared.Checked.the-variants.{Accepted}
 use Rattle.refusals.specs.declared.Written.{Written}
 use Rattle.refusals.specs.declared.Written.the-variants as Written
-use Rattle.refusals.proofs.Laws.{orElse-refused, orElse-accepted, accepted-first, passed, held, has-room, left-written, left-refused, count-written}
+use Rattle.refusals.proofs.Laws.{orElse-refused, orElse-accepted, accepted-first, passed, held, has-room, left-written, left-refused, count-written, count-any}
 use Rattle.records.specs.AcNetwork.{AcNetwork}
 use Rattle.records.specs.Network.{networkOf}
 use Rattle.records.specs.Network as Network
@@ -77,17 +76,11 @@ room-less {need} {more} rs cs vs d e =
     let p = rooms more rs cs vs e in
     rw (held _ _ (le-leb need (length rs) (omega arith)), held _ _ (le-leb need (length cs) (omega arith)), held _ _ (le-leb need (length vs) (omega arith)), accepted-first, accepted-first)
 
--- an answer that refuses, whatever the count
-pub any-count : (a : Checked) (i j : ℕ) → isRefused a ≡ true → writtenIf a i ≡ writtenIf a j
-unfolding isRefused writtenIf
-any-count Accepted i j h = absurd (subst T (sym h) tt)
-any-count (Refused cause) i j h = refl
-
 module _ {rs cs : List ℕ} {vs : List Float} where
   pub refused : {a : Checked} {es : List Entry} {w : Written} → isRefused a ≡ true → w ≡ writtenIf a 0 → Answered a es rs cs vs rs cs vs w
   refused {a} {es} h e =
       record {
-        answer = e ∙ any-count a 0 (length es) h;
+        answer = e ∙ count-any a 0 (length es) h;
         rows = sym (left-refused a (map rowOf es) rs h);
         cols = sym (left-refused a (map colOf es) cs h);
         vals = sym (left-refused a (map valOf es) vs h);

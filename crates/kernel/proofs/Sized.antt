@@ -7,7 +7,8 @@ use Rattle.refusals.specs.Refusals.{isRefused}
 use Rattle.refusals.specs.declared.Checked.{Checked}
 use Rattle.refusals.specs.declared.Checked.the-variants.{Accepted, Refused}
 use Rattle.numbering.specs.declared.SocWrLayout.{SocWrLayout}
-use Rattle.kernel.specs.Answers.{ifAccepted, SizesAnswer, NoSizes}
+use Rattle.records.specs.Counts.{ifAccepted}
+use Rattle.kernel.specs.Answers.{SizesAnswer, NoSizes}
 use Rattle.kernel.specs.declared.numbers.Sizes.{Sizes}
 
 nothing : (c : Checked) → isRefused c ≡ true → (x : ℕ) → ifAccepted c x ≡ 0

@@ -4,7 +4,7 @@ use mathlib.Core.Path.{_≡_}
 use Rattle.refusals.specs.Refusals.{checkedNumber, checkedValue, writtenNumber, writtenValue}
 use Rattle.refusals.specs.declared.Checked.{Checked}
 use Rattle.refusals.specs.declared.Written.{Written}
-use Rattle.refusals.specs.declared.Checked.the-variants as Checked
+use Rattle.records.specs.Counts.{ifAccepted}
 use Rattle.numbering.specs.Blocks.{key, total}
 use Rattle.numbering.specs.Numbering.{columnKey, rowKey}
 use Rattle.numbering.specs.Layout.{layoutColumns, layoutRows, nEqOf, nIneqOf}
@@ -33,11 +33,6 @@ pub record WrittenAnswer (w : Written) (r : Answer) : Type 0 where
 pub record LookupAnswer (l : Lookup) (r : Answer) : Type 0 where
   pub number : r .number ≡ lookupNumber l
   pub value : r .value ≡ lookupValue l
-
--- x where the check accepts, 0 where it refuses
-abbrev pub ifAccepted : Checked → ℕ → ℕ
-ifAccepted Checked.Accepted x = x
-ifAccepted (Checked.Refused cause) x = 0
 
 -- `socwr_sizes`: "the last six are 0 on a refusal"
 pub record SizesAnswer (c : Checked) (l : SocWrLayout) (r : Sizes) : Type 0 where

@@ -5,7 +5,6 @@ use mathlib.Core.Bool.{true}
 use mathlib.Core.List.{List}
 use native.Mathlib.Omega.{arith}
 use borrow.Author.Tests.{le-leb, lt-leb}
-use lib.Dec.{T}
 use lib.ListN.{length}
 use lib.Ieee.{Float}
 use Rattle.lists.specs.UpTo.{overlay}
@@ -17,7 +16,7 @@ use Rattle.refusals.specs.declared.Checked.{Checked}
 use Rattle.refusals.specs.declared.Checked.the-variants.{Accepted, Refused}
 use Rattle.refusals.specs.declared.Written.{Written}
 use Rattle.refusals.specs.declared.Written.the-variants as Written
-use Rattle.refusals.proofs.Laws.{orElse-refused, accepted-first, left-written, left-alone, left-refused, count-written, count-refused, held, failed}
+use Rattle.refusals.proofs.Laws.{orElse-refused, accepted-first, left-written, left-alone, left-refused, count-written, count-refused, count-any, held, failed}
 use Rattle.records.specs.Network.{networkOf}
 use Rattle.records.specs.Network as Network
 use Rattle.records.specs.AcNetwork.{AcNetwork}
@@ -46,11 +45,6 @@ room-held {need} {have} h = held _ _ (le-leb need have h)
 room-short : {need have : ℕ} → have < need → roomFor need have ≡ Refused (OutputTooShort need)
 room-short {need} {have} h = failed _ _ (lt-leb need have h)
 
-written-refused : (c : Checked) (p q : ℕ) → isRefused c ≡ true → writtenIf c p ≡ writtenIf c q
-unfolding writtenIf isRefused
-written-refused Accepted p q h = absurd (subst T (sym h) tt)
-written-refused (Refused cause) p q h = refl
-
 -- ---- a list of floats
 
 module _ {check : Checked} {xs ys₀ : List Float} where
@@ -59,7 +53,7 @@ module _ {check : Checked} {xs ys₀ : List Float} where
   floats-refused {c} e h q =
       let w : isRefused check ≡ true = rw (← e) h in
       let o = orElse-refused check (roomFor (length xs) (length ys₀)) w in
-      record { answer = q ∙ rw (o, ← e) (written-refused c 0 (length xs) h); left = sym (rw o (left-refused check xs ys₀ w)) }
+      record { answer = q ∙ rw (o, ← e) (count-any c 0 (length xs) h); left = sym (rw o (left-refused check xs ys₀ w)) }
 
   pub floats-short : {need : ℕ} → check ≡ Accepted → need ≡ length xs → length ys₀ < need → FloatsWritten check xs ys₀ ys₀ (Written.Refused (OutputTooShort need))
   unfolding floatsCheck
@@ -83,7 +77,7 @@ module _ {check : Checked} {cs : List (List Cell)} {ss₀ rs₀ : List ℕ} {vs�
       let w : isRefused check ≡ true = rw (← e) h in
       let o : columnsCheck check cs ss₀ rs₀ vs₀ ≡ check = orElse-refused check _ w in
       record {
-        answer = q ∙ rw (o, ← e) (written-refused c 0 (length (joined cs)) h);
+        answer = q ∙ rw (o, ← e) (count-any c 0 (length (joined cs)) h);
         starts = sym (rw o (left-refused check _ ss₀ w));
         rows = sym (rw o (left-refused check _ rs₀ w));
         values = sym (rw o (left-refused check _ vs₀ w));

@@ -105,26 +105,27 @@ fn branch_cause(n: usize, b: &[u8], r: usize) -> Checked
     requires { ⌜ 128 * r + 128 ≤ length (now b) ⌝ }
     ensures { λ x. ⌜ x ≡ branchCause n (now (b .entry)) r ⌝ }
 {
+    if !branch_form(b, r) {
+        return Checked::Refused(Refusal::BadRecord(r as u64));
+    }
     let from = inner::br_from(b, r) as usize;
     let to = inner::br_to(b, r) as usize;
-    or_else(
-        refuse_unless(branch_form(b, r), Refusal::BadRecord(r as u64)),
-        or_else(
-            refuse_unless((from < n) & (to < n), Refusal::NoSuchBus(r as u64)),
-            refuse_unless(from != to, Refusal::EqualEnds(r as u64)),
-        ),
-    )
+    let both = (from < n) & (to < n);
+    if !both {
+        return Checked::Refused(Refusal::NoSuchBus(r as u64));
+    }
+    refuse_unless(from != to, Refusal::EqualEnds(r as u64))
 }
 
 fn gen_cause(n: usize, b: &[u8], r: usize) -> Checked
     requires { ⌜ 128 * r + 128 ≤ length (now b) ⌝ }
     ensures { λ x. ⌜ x ≡ genCause n (now (b .entry)) r ⌝ }
 {
+    if !gen_form(b, r) {
+        return Checked::Refused(Refusal::BadRecord(r as u64));
+    }
     let bus = inner::gen_bus(b, r) as usize;
-    or_else(
-        refuse_unless(gen_form(b, r), Refusal::BadRecord(r as u64)),
-        refuse_unless(bus < n, Refusal::NoSuchBus(r as u64)),
-    )
+    refuse_unless(bus < n, Refusal::NoSuchBus(r as u64))
 }
 
 fn segment_cause(b: &[u8], r: usize) -> Checked
