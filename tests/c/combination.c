@@ -1,6 +1,5 @@
 /* Interface and combination from C: every entry, and every cause it may refuse for. */
-#include "lend.h"
-#include "socwr.h"
+#include "answer.h"
 
 #define ROOM 16
 
@@ -25,23 +24,6 @@ typedef struct floats {
 
 static const numbers no_numbers = {NULL, 0};
 static const floats no_floats = {NULL, 0};
-
-static int is(socwr_answer got, uint64_t number, uint64_t value) {
-    return got.number == number && got.value == value;
-}
-
-static uint32_t *blank32(uint64_t count) {
-    return (uint32_t *)(void *)lend(4 * count);
-}
-
-static double *blank64(uint64_t count) {
-    return (double *)(void *)lend(8 * count);
-}
-
-/* Equal bits. */
-static int same(const double *got, const double *want, uint64_t count) {
-    return !memcmp(got, want, 8 * count);
-}
 
 /* J, a scale of each kind, and codes that name nothing. */
 static void unit_scale(void) {

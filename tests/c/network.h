@@ -2,8 +2,7 @@
 #ifndef NETWORK_H
 #define NETWORK_H
 
-#include "lend.h"
-#include "socwr.h"
+#include "answer.h"
 
 /* Room for the records that are being made. */
 static uint8_t made[64 * SOCWR_RECORD_BYTES];

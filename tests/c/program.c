@@ -1,45 +1,21 @@
 /* Program and reading from C: Q, the lettered examples D, G and H, and every cause. */
-#include "network.h"
+#include "solution.h"
 
 #include <math.h>
 
-#define NVAR 10
-#define NCON 28
 #define ENTRIES 36
 
 /* π and its neighbours. */
 static const double pi = 3.141592653589793, above = 0x1.921fb54442d19p+1, below = 0x1.921fb54442d17p+1;
-
-static int is(socwr_answer got, uint64_t number, uint64_t value) {
-    return got.number == number && got.value == value;
-}
 
 /* The same bits of the result too. */
 static int scalar(socwr_scalar got, uint64_t number, uint64_t value, double result) {
     return got.number == number && got.value == value && !memcmp(&got.result, &result, 8);
 }
 
-static uint32_t *blank32(uint64_t count) {
-    return (uint32_t *)(void *)lend(4 * count);
-}
-
-static double *blank64(uint64_t count) {
-    return (double *)(void *)lend(8 * count);
-}
-
-/* Equal bits. */
-static int same(const double *got, const double *want, uint64_t count) {
-    return !memcmp(got, want, 8 * count);
-}
-
 /* The floats of a record, from the first on. */
 static void put_floats(uint64_t at, const double *x, int count) {
-    for (int i = 0; i < count; i++) {
-        uint64_t bits;
-        memcpy(&bits, x + i, 8);
-        put_number(at, 16 + 8 * i, (uint32_t)bits);
-        put_number(at, 20 + 8 * i, (uint32_t)(bits >> 32));
-    }
+    for (int i = 0; i < count; i++) put_float(at, i, x[i]);
 }
 
 /* Q with the voltage bound of bus 0 active, tap 2, and the flags of the branch and the generator as given. */
@@ -124,44 +100,44 @@ static double value_at(columns c, uint32_t row, uint64_t column) {
 
 /* A of Q: gs and bs of bus 1 are zeros and left out, so are the angle rows. */
 static void a_of_q(void) {
-    static const uint32_t starts[NVAR + 1] = {0, 1, 2, 10, 14, 19, 24, 27, 30, 33, 36};
+    static const uint32_t starts[Q_NVAR + 1] = {0, 1, 2, 10, 14, 19, 24, 27, 30, 33, 36};
     static const uint32_t rows[ENTRIES] = {0, 2, 0, 2, 4, 5, 8, 10, 18, 21, 6, 7, 18, 21, 4, 5, 6, 7,
                                            19, 4, 5, 6, 7, 20, 0, 4, 23, 1, 6, 26, 2, 5, 24, 3, 7, 27};
     static const double values[ENTRIES] = {1.0, 1.0, -0.5, 0.25, -0.25, -0.375, 1.0, -1.0, -0.5, -0.5, -1.0, -1.5,
                                            -0.5, 0.5, 0.5, 1.0, 0.5, 1.0, -1.0, -1.0, 0.5, 1.0, -0.5, -1.0,
                                            -1.0, 1.0, -1.0, -1.0, 1.0, -1.0, -1.0, 1.0, -1.0, -1.0, 1.0, -1.0};
-    columns a = by_columns(program(1, 0, -1.0, 1.0, 1.5), socwr_program_a, NVAR + 1, ENTRIES);
+    columns a = by_columns(program(1, 0, -1.0, 1.0, 1.5), socwr_program_a, Q_NVAR + 1, ENTRIES);
     EXPECT(!memcmp(a.starts, starts, sizeof starts) && !memcmp(a.rows, rows, sizeof rows));
     EXPECT(same(a.values, values, ENTRIES));
 }
 
 /* P, q and b of Q; example G in rows wub and wlb of bus 0. */
 static void p_q_b_of_q(void) {
-    static const uint32_t starts[NVAR + 1] = {0, 1, 1, 1, 1, 1, 1, 1, 1, 1, 1};
-    static const double q[NVAR] = {7.0}, p = 6.0;
-    static const double b[NCON] = {1.0, 3.0, 2.0, 4.0, 0.0, 0.0, 0.0, 0.0, 2.25, 1.0, -0.25, 1.0, 1.0, 1.0,
+    static const uint32_t starts[Q_NVAR + 1] = {0, 1, 1, 1, 1, 1, 1, 1, 1, 1, 1};
+    static const double q[Q_NVAR] = {7.0}, p = 6.0;
+    static const double b[Q_NCON] = {1.0, 3.0, 2.0, 4.0, 0.0, 0.0, 0.0, 0.0, 2.25, 1.0, -0.25, 1.0, 1.0, 1.0,
                                    1.0, 1.0, 1.0, 1.0, 0.0, 0.0, 0.0, 0.0, 4.0, 0.0, 0.0, 4.0, 0.0, 0.0};
     network net = program(1, 0, -1.0, 1.0, 1.5);
-    columns c = by_columns(net, socwr_program_p, NVAR + 1, 1);
+    columns c = by_columns(net, socwr_program_p, Q_NVAR + 1, 1);
     EXPECT(!memcmp(c.starts, starts, sizeof starts) && c.rows[0] == 0 && same(c.values, &p, 1));
-    EXPECT(same(one_list(net, socwr_program_q, NVAR), q, NVAR));
-    EXPECT(same(one_list(net, socwr_program_b, NCON), b, NCON));
+    EXPECT(same(one_list(net, socwr_program_q, Q_NVAR), q, Q_NVAR));
+    EXPECT(same(one_list(net, socwr_program_b, Q_NCON), b, Q_NCON));
 }
 
 /* An active capability: four entries and four bounds. */
 static void capability(void) {
     static const double bounds[4] = {5.0, 1.0, 6.0, 2.0};
     network net = program(1, 1, -1.0, 1.0, 1.5);
-    columns a = by_columns(net, socwr_program_a, NVAR + 1, ENTRIES + 4);
+    columns a = by_columns(net, socwr_program_a, Q_NVAR + 1, ENTRIES + 4);
     EXPECT(value_at(a, 12, 0) == 1.0 && value_at(a, 13, 0) == -1.0 && value_at(a, 14, 1) == 1.0 && value_at(a, 15, 1) == -1.0);
-    EXPECT(same(one_list(net, socwr_program_b, NCON) + 12, bounds, 4));
+    EXPECT(same(one_list(net, socwr_program_b, Q_NCON) + 12, bounds, 4));
 }
 
 /* H, and bounds beside it: rows are empty with b 1 only where both are at or beyond π. */
 static void angles(double angmin, double angmax, int empty) {
     network net = program(3, 0, angmin, angmax, 1.5);
-    columns a = by_columns(net, socwr_program_a, NVAR + 1, ENTRIES + (empty ? 0 : 4));
-    const double *b = one_list(net, socwr_program_b, NCON);
+    columns a = by_columns(net, socwr_program_a, Q_NVAR + 1, ENTRIES + (empty ? 0 : 4));
+    const double *b = one_list(net, socwr_program_b, Q_NCON);
     double one = empty ? 0.0 : 1.0, tangent = empty ? 0.0 : 1.5, side = empty ? 1.0 : 0.0;
     EXPECT(value_at(a, 16, 5) == one && value_at(a, 16, 4) == -tangent);
     EXPECT(value_at(a, 17, 5) == -one && value_at(a, 17, 4) == -tangent);
@@ -177,16 +153,16 @@ static void example_h(void) {
     angles(NAN, pi, 0);
     angles(-pi, NAN, 0);
     /* Tangents that vanish leave the entries of wi. */
-    by_columns(program(3, 0, -1.0, 1.0, 0.0), socwr_program_a, NVAR + 1, ENTRIES + 2);
+    by_columns(program(3, 0, -1.0, 1.0, 0.0), socwr_program_a, Q_NVAR + 1, ENTRIES + 2);
 }
 
 /* Tap 0: what is no number is kept. With all floats 0 the ends and the balances have no entry of w. */
 static void tap_zero(void) {
     make_program(1, 0, -1.0, 1.0, 1.5);
     memset(record(2) + 64, 0, 8);
-    columns a = by_columns(lent(2, 1, 1, 0), socwr_program_a, NVAR + 1, ENTRIES);
+    columns a = by_columns(lent(2, 1, 1, 0), socwr_program_a, Q_NVAR + 1, ENTRIES);
     EXPECT(isnan(value_at(a, 4, 4)) && value_at(a, 4, 2) == -INFINITY);
-    a = by_columns(q(1), socwr_program_a, NVAR + 1, 30);
+    a = by_columns(q(1), socwr_program_a, Q_NVAR + 1, 30);
     EXPECT(isnan(value_at(a, 4, 2)) && isnan(value_at(a, 7, 5)) && value_at(a, 6, 3) == 0.0);
 }
 
@@ -237,24 +213,24 @@ static const double *counted(uint64_t count) {
 static void prices(void) {
     static const double want[4] = {-1.0, -2.0, -3.0, -4.0};
     network net = program(1, 0, -1.0, 1.0, 1.5);
-    const double *z = counted(NCON);
+    const double *z = counted(Q_NCON);
     double *out = blank64(4), *longer = blank64(6), *few = blank64(3);
-    EXPECT(is(socwr_prices(NET(net), z, NCON, out, 4), 0, 4) && same(out, want, 4));
-    EXPECT(is(socwr_prices(NET(net), z, NCON, longer, 6), 0, 4) && same(longer, want, 4) && untouched(longer + 4, 16));
-    EXPECT(is(socwr_prices(NET(net), z, NCON, few, 3), 10, 4) && untouched(few, 24));
-    EXPECT(is(socwr_prices(NET(net), z, NCON, NULL, 0), 10, 4));
-    EXPECT(is(socwr_prices(NET(net), z + 1, NCON - 1, few, 3), 6, 1) && untouched(few, 24));
-    EXPECT(is(socwr_prices(NET(net), counted(NCON + 1), NCON + 1, few, 3), 6, 1) && untouched(few, 24));
+    EXPECT(is(socwr_prices(NET(net), z, Q_NCON, out, 4), 0, 4) && same(out, want, 4));
+    EXPECT(is(socwr_prices(NET(net), z, Q_NCON, longer, 6), 0, 4) && same(longer, want, 4) && untouched(longer + 4, 16));
+    EXPECT(is(socwr_prices(NET(net), z, Q_NCON, few, 3), 10, 4) && untouched(few, 24));
+    EXPECT(is(socwr_prices(NET(net), z, Q_NCON, NULL, 0), 10, 4));
+    EXPECT(is(socwr_prices(NET(net), z + 1, Q_NCON - 1, few, 3), 6, 1) && untouched(few, 24));
+    EXPECT(is(socwr_prices(NET(net), counted(Q_NCON + 1), Q_NCON + 1, few, 3), 6, 1) && untouched(few, 24));
 }
 
 static void reading_check(void) {
     network net = program(1, 0, -1.0, 1.0, 1.5);
-    const double *x = counted(NVAR), *z = counted(NCON);
-    EXPECT(is(socwr_reading_check(NET(net), x, NVAR, z, NCON), 0, 0));
-    EXPECT(is(socwr_reading_check(NET(net), x + 1, NVAR - 1, z, NCON), 6, 0));
-    EXPECT(is(socwr_reading_check(NET(net), x, NVAR, z + 1, NCON - 1), 6, 1));
+    const double *x = counted(Q_NVAR), *z = counted(Q_NCON);
+    EXPECT(is(socwr_reading_check(NET(net), x, Q_NVAR, z, Q_NCON), 0, 0));
+    EXPECT(is(socwr_reading_check(NET(net), x + 1, Q_NVAR - 1, z, Q_NCON), 6, 0));
+    EXPECT(is(socwr_reading_check(NET(net), x, Q_NVAR, z + 1, Q_NCON - 1), 6, 1));
     EXPECT(is(socwr_reading_check(NET(net), NULL, 0, NULL, 0), 6, 0));
-    EXPECT(is(socwr_reading_check(NET(net), x, NVAR, counted(NCON + 1), NCON + 1), 6, 1));
+    EXPECT(is(socwr_reading_check(NET(net), x, Q_NVAR, counted(Q_NCON + 1), Q_NCON + 1), 6, 1));
     /* The parts of x. */
     static const double first[9] = {1.0, 2.0, 3.0, 5.0, 6.0, 7.0, 8.0, 9.0, 10.0};
     for (uint64_t block = SOCWR_COLUMN_PG; block <= SOCWR_COLUMN_QT; block++) {
@@ -265,17 +241,17 @@ static void reading_check(void) {
 static void objective(void) {
     static const uint64_t far[4] = {3, (uint64_t)1 << 32, (uint64_t)1 << 63, UINT64_MAX};
     network net = program(1, 0, -1.0, 1.0, 1.5);
-    const double *x = counted(NVAR), *two = counted(6);
-    EXPECT(scalar(socwr_objective(NET(net), SOCWR_FEASIBILITY, x, NVAR, 9.0), 0, 0, 0.0));
-    EXPECT(scalar(socwr_objective(NET(net), SOCWR_NETWORK_GENERATOR_COST, x, NVAR, 9.0), 0, 0, 21.0));
-    EXPECT(scalar(socwr_objective(NET(net), SOCWR_OTHER_OBJECTIVE, x, NVAR, -0.0), 0, 0, -0.0));
+    const double *x = counted(Q_NVAR), *two = counted(6);
+    EXPECT(scalar(socwr_objective(NET(net), SOCWR_FEASIBILITY, x, Q_NVAR, 9.0), 0, 0, 0.0));
+    EXPECT(scalar(socwr_objective(NET(net), SOCWR_NETWORK_GENERATOR_COST, x, Q_NVAR, 9.0), 0, 0, 21.0));
+    EXPECT(scalar(socwr_objective(NET(net), SOCWR_OTHER_OBJECTIVE, x, Q_NVAR, -0.0), 0, 0, -0.0));
     for (int i = 0; i < 4; i++) {
-        EXPECT(scalar(socwr_objective(NET(net), far[i], x, NVAR, 9.0), 7, far[i], 0.0));
-        EXPECT(scalar(socwr_objective(NET(net), far[i], x + 1, NVAR - 1, 9.0), 6, 0, 0.0));
+        EXPECT(scalar(socwr_objective(NET(net), far[i], x, Q_NVAR, 9.0), 7, far[i], 0.0));
+        EXPECT(scalar(socwr_objective(NET(net), far[i], x + 1, Q_NVAR - 1, 9.0), 6, 0, 0.0));
     }
     for (uint64_t code = 0; code < 3; code++) {
-        EXPECT(scalar(socwr_objective(NET(net), code, x + 1, NVAR - 1, 9.0), 6, 0, 0.0));
-        EXPECT(scalar(socwr_objective(NET(net), code, counted(NVAR + 1), NVAR + 1, 9.0), 6, 0, 0.0));
+        EXPECT(scalar(socwr_objective(NET(net), code, x + 1, Q_NVAR - 1, 9.0), 6, 0, 0.0));
+        EXPECT(scalar(socwr_objective(NET(net), code, counted(Q_NVAR + 1), Q_NVAR + 1, 9.0), 6, 0, 0.0));
     }
     /* 2 for the plain generator; the largest of 1, 4 and 4 at 2. */
     EXPECT(scalar(socwr_objective(NET(make_piecewise()), SOCWR_NETWORK_GENERATOR_COST, two, 6, 9.0), 0, 0, 6.0));
@@ -285,19 +261,19 @@ static void objective(void) {
 
 /* Every entry refuses the network alike, and leaves what it was lent alone. */
 static void all_refuse(network net, uint64_t number, uint64_t value) {
-    columns c = blank(NVAR + 1, 2 * ENTRIES, 2 * ENTRIES);
-    const double *x = counted(NVAR), *z = counted(NCON);
+    columns c = blank(Q_NVAR + 1, 2 * ENTRIES, 2 * ENTRIES);
+    const double *x = counted(Q_NVAR), *z = counted(Q_NCON);
     EXPECT(is(socwr_program_p(NET(net), OUT(c)), number, value) && left_alone(c, 0, 0));
     EXPECT(is(socwr_program_a(NET(net), OUT(c)), number, value) && left_alone(c, 0, 0));
     EXPECT(is(socwr_program_a(NET(net), NULL, 0, NULL, 0, NULL, 0), number, value));
     EXPECT(is(socwr_program_q(NET(net), c.values, c.values_len), number, value));
     EXPECT(is(socwr_program_b(NET(net), c.values, c.values_len), number, value));
     EXPECT(is(socwr_program_b(NET(net), NULL, 0), number, value));
-    EXPECT(is(socwr_prices(NET(net), z, NCON, c.values, c.values_len), number, value) && left_alone(c, 0, 0));
+    EXPECT(is(socwr_prices(NET(net), z, Q_NCON, c.values, c.values_len), number, value) && left_alone(c, 0, 0));
     EXPECT(is(socwr_prices(NET(net), NULL, 0, NULL, 0), number, value));
-    EXPECT(is(socwr_reading_check(NET(net), x, NVAR, z, NCON), number, value));
+    EXPECT(is(socwr_reading_check(NET(net), x, Q_NVAR, z, Q_NCON), number, value));
     EXPECT(is(socwr_reading_check(NET(net), NULL, 0, NULL, 0), number, value));
-    EXPECT(scalar(socwr_objective(NET(net), 1, x, NVAR, 9.0), number, value, 0.0));
+    EXPECT(scalar(socwr_objective(NET(net), 1, x, Q_NVAR, 9.0), number, value, 0.0));
     EXPECT(scalar(socwr_objective(NET(net), UINT64_MAX, NULL, 0, 9.0), number, value, 0.0));
 }
 

@@ -1,10 +1,6 @@
 /* Records and numbering from C: Q, the lettered examples A to E and I, and every cause. */
 #include "network.h"
 
-static int is(socwr_answer got, uint64_t number, uint64_t value) {
-    return got.number == number && got.value == value;
-}
-
 static int refused(socwr_name got, uint64_t number, uint64_t value) {
     return got.number == number && got.value == value && !got.block && !got.index && !got.place;
 }

@@ -17,14 +17,14 @@ typedef struct solution {
 #define AT(at) (at).x, (at).x_len, (at).z, (at).z_len
 
 /* Float i of a record, little-endian. */
-static void put_float(uint64_t at, int i, double x) {
+static inline void put_float(uint64_t at, int i, double x) {
     uint64_t bits;
     memcpy(&bits, &x, 8);
     for (int j = 0; j < 8; j++) record(at)[16 + 8 * i + j] = (uint8_t)(bits >> (8 * j));
 }
 
 /* Q with a branch of tap, cosine 1 and sine 0, limited. */
-static network q_tapped(double tap) {
+static inline network q_tapped(double tap) {
     make_q(1);
     put_float(2, 6, tap);
     put_float(2, 7, 1.0);
@@ -32,21 +32,9 @@ static network q_tapped(double tap) {
 }
 
 /* x and z, lent for reading. */
-static solution lent_at(const double *x, uint64_t x_len, const double *z, uint64_t z_len) {
+static inline solution lent_at(const double *x, uint64_t x_len, const double *z, uint64_t z_len) {
     solution at = {lend_read(x, 8 * x_len), lend_read(z, 8 * z_len), x_len, z_len};
     return at;
-}
-
-static int is(socwr_answer got, uint64_t number, uint64_t value) {
-    return got.number == number && got.value == value;
-}
-
-static uint32_t *blank32(uint64_t count) {
-    return (uint32_t *)(void *)lend(4 * count);
-}
-
-static double *blank64(uint64_t count) {
-    return (double *)(void *)lend(8 * count);
 }
 
 #endif
