@@ -44,7 +44,7 @@ fn put_counted(
     Written::Count(written as u64)
 }
 
-pub fn put_a(
+pub(crate) fn put_a(
     starts: &mut [u32],
     rows: &mut [u32],
     values: &mut [f64],
