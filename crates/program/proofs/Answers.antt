@@ -16,13 +16,18 @@ use Rattle.refusals.specs.declared.Checked.{Checked}
 use Rattle.refusals.specs.declared.Checked.the-variants.{Accepted, Refused}
 use Rattle.refusals.specs.declared.Written.{Written}
 use Rattle.refusals.specs.declared.Written.the-variants as Written
+use Rattle.records.specs.Check.{checkOf}
+use Rattle.records.proofs.Laws.{accepted}
 use Rattle.refusals.proofs.Laws.{orElse-refused, accepted-first, left-written, left-alone, left-refused, count-written, count-refused, count-any, held, failed}
 use Rattle.records.specs.Network.{networkOf}
 use Rattle.records.specs.Network as Network
 use Rattle.records.specs.AcNetwork.{AcNetwork}
 use Rattle.numbering.specs.Layout.{layoutOf}
+use Rattle.numbering.specs.Lookups.{LaidOut}
 use Rattle.numbering.proofs.Layouts.{accepted-range}
+use Rattle.numbering.proofs.OnePass.{pass-layout}
 use Rattle.numbering.specs.declared.SocWrLayout.{SocWrLayout}
+use Rattle.numbering.specs.declared.CheckedLayout.{CheckedLayout}
 use Rattle.cells.specs.Ready.{Ready, netOf}
 use Rattle.program.specs.Answered.{floatsCheck, FloatsWritten, columnsCheck, ColumnsWritten}
 use Rattle.cells.specs.Columns.{Whole}
@@ -31,10 +36,10 @@ use Rattle.cells.proofs.Ends.{whole-count, whole-starts, whole-rows, whole-vals
 -- ---- accepted records
 
 module _ (n m k s : ℕ) (b : List ℕ) {l : SocWrLayout} where
-  pub ready : Network.Accepted n m k s b → l ≡ layoutOf (networkOf n m k s b) → Ready l b
+  ready : Network.Accepted n m k s b → l ≡ layoutOf (networkOf n m k s b) → Ready l b
   ready a e = subst (λ (x : SocWrLayout). Ready x b) (sym e) (record { accepted = a; range = accepted-range n m k s b a; limits-are = refl; curves-are = refl })
 
-  pub net-is : l ≡ layoutOf (networkOf n m k s b) → netOf l b ≡ networkOf n m k s b
+  net-is : l ≡ layoutOf (networkOf n m k s b) → netOf l b ≡ networkOf n m k s b
   net-is e = ap (λ (x : SocWrLayout). netOf x b) e
 
 -- ---- rooms
@@ -112,17 +117,19 @@ module _ {check : Checked} {cs : List (List Cell)} {ss₀ rs₀ : List ℕ} {vs�
         values = whole-vals w q ∙ sym (left-written _ vs₀ o);
       }
 
--- ---- an accepted check, and equal networks
+-- ---- of accepted records what their layout gives
 
-pub columns-checked : {check : Checked} {cs : List (List Cell)} {ss₀ rs₀ ss rs : List ℕ} {vs₀ vs : List Float} {r : Written} → check ≡ Accepted
-    → ColumnsWritten Accepted cs ss₀ rs₀ vs₀ ss rs vs r → ColumnsWritten check cs ss₀ rs₀ vs₀ ss rs vs r
-columns-checked e h = rw e h
+module _ {n m k s : ℕ} {b : List ℕ} {e : ℕ} {c : CheckedLayout} (p : LaidOut n m k s b e c) (h : checkOf n m k s b ≡ Accepted) where
+  pub pass-ready : Ready (c .layout) b
+  pass-ready = ready n m k s b (accepted n m k s b h) (pass-layout p h)
 
-pub floats-of : (f : AcNetwork Float → List Float) {G H : AcNetwork Float} {check : Checked} {ys₀ ys : List Float} {r : Written}
-    → G ≡ H → FloatsWritten check (f G) ys₀ ys r → FloatsWritten check (f H) ys₀ ys r
-floats-of f {check = check} {ys₀ = ys₀} {ys = ys} {r = r} e h = subst (λ (G : AcNetwork Float). FloatsWritten check (f G) ys₀ ys r) e h
+  same-network : netOf (c .layout) b ≡ networkOf n m k s b
+  same-network = net-is n m k s b (pass-layout p h)
 
-pub columns-of : (f : AcNetwork Float → List (List Cell)) {G H : AcNetwork Float} {check : Checked} {ss₀ rs₀ ss rs : List ℕ} {vs₀ vs : List Float} {r : Written}
-    → G ≡ H → ColumnsWritten check (f G) ss₀ rs₀ vs₀ ss rs vs r → ColumnsWritten check (f H) ss₀ rs₀ vs₀ ss rs vs r
-columns-of f {check = check} {ss₀ = ss₀} {rs₀ = rs₀} {ss = ss} {rs = rs} {vs₀ = vs₀} {vs = vs} {r = r} e h =
-    subst (λ (G : AcNetwork Float). ColumnsWritten check (f G) ss₀ rs₀ vs₀ ss rs vs r) e h
+  pub pass-floats : (f : AcNetwork Float → List Float) {ys₀ ys : List Float} {r : Written} → FloatsWritten Accepted (f (netOf (c .layout) b)) ys₀ ys r
+      → FloatsWritten (checkOf n m k s b) (f (networkOf n m k s b)) ys₀ ys r
+  pass-floats f w = rw (h, ← same-network) w
+
+  pub pass-columns : (f : AcNetwork Float → List (List Cell)) {ss₀ rs₀ ss rs : List ℕ} {vs₀ vs : List Float} {r : Written}
+      → ColumnsWritten Accepted (f (netOf (c .layout) b)) ss₀ rs₀ vs₀ ss rs vs r → ColumnsWritten (checkOf n m k s b) (f (networkOf n m k s b)) ss₀ rs₀ vs₀ ss rs vs r
+  pass-columns f w = rw (h, ← same-network) w

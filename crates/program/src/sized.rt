@@ -1,4 +1,4 @@
-// A into lent lists: counted before it is written, unless they hold the most entries that it can have.
+// P, q, A and b into lent lists, from the layout of accepted records.
 use assembly::inner::count_a;
 use assembly::inner::fill_a;
 use numbering::SocWrLayout;
@@ -10,10 +10,60 @@ ghost use lib.ListN.{length};
 ghost use Rattle.refusals.specs.declared.Checked.the-variants.{Accepted};
 ghost use Rattle.numbering.specs.Blocks.{total};
 ghost use Rattle.numbering.specs.Layout.{layoutColumns, InRange};
-ghost use Rattle.rows.specs.Program.{matrix};
+ghost use Rattle.rows.specs.Program.{linear, matrix};
+ghost use Rattle.matrix.specs.Lists.{rightSide, quadraticMatrix};
 ghost use Rattle.cells.specs.Ready.{Ready, netOf};
 ghost use Rattle.assembly.specs.Parts.{mostA};
-ghost use Rattle.program.specs.Answered.{ColumnsWritten};
+ghost use Rattle.program.specs.Answered.{FloatsWritten, ColumnsWritten};
+
+pub(crate) fn put_b(b: &mut [f64], l: SocWrLayout, bytes: &[u8]) -> Written
+    requires { ⌜ Ready l (now bytes) ⌝ }
+    ensures { λ r. ⌜ FloatsWritten Accepted (rightSide (netOf l (now (bytes .entry)))) (now (b .entry)) (now (b .exit)) r ⌝ }
+{
+    let need = numbering::inner::ncon(l) as usize;
+    if b.len() < need {
+        return Written::Refused(Refusal::OutputTooShort(need as u64));
+    }
+    sides::inner::fill_b(b, l, bytes);
+    Written::Count(need as u64)
+}
+
+pub(crate) fn put_q(q: &mut [f64], l: SocWrLayout, bytes: &[u8]) -> Written
+    requires { ⌜ Ready l (now bytes) ⌝ }
+    ensures { λ r. ⌜ FloatsWritten Accepted (linear (netOf l (now (bytes .entry)))) (now (q .entry)) (now (q .exit)) r ⌝ }
+{
+    let need = numbering::inner::nvar(l) as usize;
+    if q.len() < need {
+        return Written::Refused(Refusal::OutputTooShort(need as u64));
+    }
+    sides::inner::fill_q(q, l, bytes);
+    Written::Count(need as u64)
+}
+
+pub(crate) fn put_p(
+    starts: &mut [u32],
+    rows: &mut [u32],
+    values: &mut [f64],
+    l: SocWrLayout,
+    bytes: &[u8],
+) -> Written
+    requires { ⌜ Ready l (now bytes) ⌝ }
+    ensures { λ r. ⌜ ColumnsWritten Accepted (quadraticMatrix (netOf l (now (bytes .entry)))) (now (starts .entry)) (now (rows .entry)) (now (values .entry)) (now (starts .exit)) (now (rows .exit)) (now (values .exit)) r ⌝ }
+{
+    let need = numbering::inner::nvar(l) as usize + 1;
+    if starts.len() < need {
+        return Written::Refused(Refusal::OutputTooShort(need as u64));
+    }
+    let count = sides::inner::quadratic::count_p(l, bytes);
+    if rows.len() < count {
+        return Written::Refused(Refusal::OutputTooShort(count as u64));
+    }
+    if values.len() < count {
+        return Written::Refused(Refusal::OutputTooShort(count as u64));
+    }
+    let written = sides::inner::quadratic::fill_p(starts, rows, values, l, bytes);
+    Written::Count(written as u64)
+}
 
 fn most(l: SocWrLayout) -> usize
     requires { ⌜ InRange l ⌝ }
@@ -44,7 +94,8 @@ fn put_counted(
     Written::Count(written as u64)
 }
 
-pub(crate) fn put_a(
+// Counted before it is written, unless the lists hold the most entries that A can have.
+fn put_sized(
     starts: &mut [u32],
     rows: &mut [u32],
     values: &mut [f64],
@@ -64,4 +115,21 @@ pub(crate) fn put_a(
     }
     let written = fill_a(starts, rows, values, l, bytes);
     Written::Count(written as u64)
+}
+
+pub(crate) fn put_a(
+    starts: &mut [u32],
+    rows: &mut [u32],
+    values: &mut [f64],
+    l: SocWrLayout,
+    bytes: &[u8],
+) -> Written
+    requires { ⌜ Ready l (now bytes) ⌝ }
+    ensures { λ r. ⌜ ColumnsWritten Accepted (matrix (netOf l (now (bytes .entry)))) (now (starts .entry)) (now (rows .entry)) (now (values .entry)) (now (starts .exit)) (now (rows .exit)) (now (values .exit)) r ⌝ }
+{
+    let need = numbering::inner::nvar(l) as usize + 1;
+    if starts.len() < need {
+        return Written::Refused(Refusal::OutputTooShort(need as u64));
+    }
+    put_sized(starts, rows, values, l, bytes)
 }

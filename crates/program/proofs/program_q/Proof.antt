@@ -1,63 +1,24 @@
 -- `program::program_q` meets its contract. Assumes nothing.
 use borrow.Author.Needs.{needs}
-use mathlib.Core.Path.{_≡_, sym, _∙_}
-use native.Mathlib.Omega.{arith}
-use denote.Ref.{now}
-use Rattle.records.specs.Check.{checkOf}
-use Rattle.records.proofs.Laws.{accepted}
-use Rattle.refusals.proofs.Laws.{passed}
-use Rattle.refusals.specs.declared.Checked.the-variants.{Accepted}
+use mathlib.Core.Path.{sym, _∙_}
+use Rattle.refusals.proofs.Laws.{accepted-by}
 use Rattle.rows.specs.Program.{linear}
-use Rattle.sides.proofs.RightSide.{linear-length}
-use Rattle.program.proofs.Answers.{ready, net-is, floats-refused, floats-short, floats-written, floats-of}
+use Rattle.program.proofs.Answers.{floats-refused, pass-ready, pass-floats}
 use Rattle.program.proofs.program_q.Statement.{statement}
 use Rattle.program.proofs.program_q.Tie as tie
 
 returns : tie.Need-returns
-returns c = floats-refused (c .before .before .before .check-records .ensures) (sym (c .before .before .is-refused .ensures) ∙ c .before .if1 .taken) (c .written-if .ensures)
+returns c = floats-refused (c .before .before .before .check-layout .ensures .check) (sym (c .before .before .is-refused .ensures) ∙ c .before .if1 .taken) (c .written-if .ensures)
 
-layout-requires : tie.Need-layout-requires
-layout-requires c κs =
-    let a = c .before .before .before .before .before .args in
-    let b = now (a .bytes) in
-    let o : checkOf (a .n) (a .m) (a .k) (a .s) b ≡ Accepted = sym (c .before .before .check-records .ensures) ∙ passed _ (sym (c .before .is-refused .ensures) ∙ c .if1 .left) in
-    accepted (a .n) (a .m) (a .k) (a .s) b o
-
-nvar-requires : tie.Need-nvar-requires
-nvar-requires c κs =
-    let a = c .before .before .before .before .before .before .args in
-    let b = now (a .bytes) in
-    let o : checkOf (a .n) (a .m) (a .k) (a .s) b ≡ Accepted = sym (c .before .before .before .check-records .ensures) ∙ passed _ (sym (c .before .before .is-refused .ensures) ∙ c .before .if1 .left) in
-    let r = ready (a .n) (a .m) (a .k) (a .s) b (accepted (a .n) (a .m) (a .k) (a .s) b o) (c .layout .ensures) in
-    r .range
+put-q-requires : tie.Need-put-q-requires
+put-q-requires c κs =
+    let p = c .before .before .before .check-layout .ensures in
+    pass-ready p (accepted-by (p .check) (c .before .before .is-refused .ensures) (c .before .if1 .left))
 
 returns-2 : tie.Need-returns-2
 returns-2 c =
-    let a = c .before .before .before .before .before .before .before .before .args in
-    let b = now (a .bytes) in
-    let o : checkOf (a .n) (a .m) (a .k) (a .s) b ≡ Accepted = sym (c .before .before .before .before .before .check-records .ensures) ∙ passed _ (sym (c .before .before .before .before .is-refused .ensures) ∙ c .before .before .before .if1 .left) in
-    let r = ready (a .n) (a .m) (a .k) (a .s) b (accepted (a .n) (a .m) (a .k) (a .s) b o) (c .before .before .layout .ensures) in
-    let e = net-is (a .n) (a .m) (a .k) (a .s) b (c .before .before .layout .ensures) in
-    let h = linear-length (c .before .before .layout .result) b r in
-    floats-of linear e (floats-short o (c .before .nvar .ensures ∙ sym h) (c .if2 .taken))
-
-fill-q-requires : tie.Need-fill-q-requires
-fill-q-requires c κs =
-    let a = c .before .before .before .before .before .before .before .before .before .args in
-    let b = now (a .bytes) in
-    let o : checkOf (a .n) (a .m) (a .k) (a .s) b ≡ Accepted = sym (c .before .before .before .before .before .before .check-records .ensures) ∙ passed _ (sym (c .before .before .before .before .before .is-refused .ensures) ∙ c .before .before .before .before .if1 .left) in
-    let r = ready (a .n) (a .m) (a .k) (a .s) b (accepted (a .n) (a .m) (a .k) (a .s) b o) (c .before .before .before .layout .ensures) in
-    (r, omega (arith, c .before .before .nvar .ensures))
-
-returns-3 : tie.Need-returns-3
-returns-3 c =
-    let a = c .before .before .before .before .before .before .before .before .before .before .before .before .args in
-    let b = now (a .bytes) in
-    let o : checkOf (a .n) (a .m) (a .k) (a .s) b ≡ Accepted = sym (c .before .before .before .before .before .before .before .before .before .check-records .ensures) ∙ passed _ (sym (c .before .before .before .before .before .before .before .before .is-refused .ensures) ∙ c .before .before .before .before .before .before .before .if1 .left) in
-    let r = ready (a .n) (a .m) (a .k) (a .s) b (accepted (a .n) (a .m) (a .k) (a .s) b o) (c .before .before .before .before .before .before .layout .ensures) in
-    let e = net-is (a .n) (a .m) (a .k) (a .s) b (c .before .before .before .before .before .before .layout .ensures) in
-    let h = linear-length (c .before .before .before .before .before .before .layout .result) b r in
-    floats-of linear e (floats-written o (c .before .before .before .before .before .nvar .ensures ∙ sym h) (omega (arith, h, c .before .before .before .before .before .nvar .ensures, c .before .before .before .before .if2 .left)) (c .before .before .fill-q .ensures))
+    let p = c .before .before .before .before .before .before .check-layout .ensures in
+    pass-floats p (accepted-by (p .check) (c .before .before .before .before .before .is-refused .ensures) (c .before .before .before .before .if1 .left)) linear (c .before .before .put-q .ensures)
 
 pub program-q-spec : {M : Type 1} → statement M
-program-q-spec = tie.close (tie.spec (λ c κs. search needs) (λ c κs. search needs) (λ c κs. search needs) returns layout-requires nvar-requires (λ c. search needs) returns-2 fill-q-requires (λ c. search needs) returns-3)
+program-q-spec = tie.close (tie.spec (λ c κs. search needs) (λ c κs. search needs) (λ c κs. search needs) returns put-q-requires (λ c. search needs) returns-2)
