@@ -1,7 +1,6 @@
--- A in the parts in which the code writes it, and how many cells the buses have.
+-- A in the parts in which the code writes it, and the most entries that it can have.
 use Prim.Native.Nat.{ℕ, _+_, _*_}
 use mathlib.Core.List.{List, _++_}
-use lib.ListN.{length}
 use lib.Ieee.{Float}
 use Rattle.lists.specs.UpTo.{each, listed}
 use Rattle.lists.specs.Entries.{Cell}
@@ -10,7 +9,6 @@ use Rattle.numbering.specs.declared.SocWrLayout.{SocWrLayout}
 use Rattle.rows.specs.Rows.{pf, qf, pt, qt}
 use Rattle.matrix.specs.Columns.{pgCells, qgCells, wrCells, wiCells, flowCells}
 use Rattle.record_columns.specs.Writers.{costTurn}
-use Rattle.bus_columns.specs.Buses.{shuntItems, ohmItems, boundItems, coneItems}
 
 module _ (G : AcNetwork Float) where
   unfoldable pub generatorColumns : List (List Cell)
@@ -24,15 +22,6 @@ module _ (G : AcNetwork Float) where
 
   unfoldable pub branchColumns : List (List Cell)
   branchColumns = productColumns ++ flowColumns ++ each (G .k) (costTurn G)
-
-module _ (l : SocWrLayout) (bytes : List ℕ) where
-  unfoldable pub busCount : ℕ → ℕ
-  busCount i = length (shuntItems l bytes i) + length (boundItems l bytes i)
-
-  unfoldable pub endCount : ℕ → ℕ
-  endCount e =
-      length (ohmItems l bytes pf e) + length (ohmItems l bytes qf e) + length (ohmItems l bytes pt e) + length (ohmItems l bytes qt e)
-      + length (coneItems l bytes e)
 
 -- the most entries that A can have with these counts
 abbrev pub mostA : SocWrLayout → ℕ

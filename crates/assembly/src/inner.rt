@@ -1,8 +1,9 @@
 // A by compressed columns: its parts one after the other, and their count.
+use bus_columns::inner::counts::count_from;
+use bus_columns::inner::counts::count_own;
+use bus_columns::inner::counts::count_to;
 use bus_columns::inner::put_buses;
-use cells::inner::bit_nonzero;
 use coefficients::OhmRow;
-use coefficients::inner::w_value;
 use lists::inner::store_u32;
 use numbering::SocWrLayout;
 use record_columns::inner::branches::put_flows;
@@ -20,7 +21,8 @@ ghost use Rattle.rows.specs.Program.{matrix};
 ghost use Rattle.matrix.specs.Columns.{wCells};
 ghost use Rattle.cells.specs.Ready.{Ready, netOf};
 ghost use Rattle.cells.specs.Columns.{Columns, Whole};
-ghost use Rattle.assembly.specs.Parts.{generatorColumns, productColumns, flowColumns, branchColumns, busCount, endCount, mostA};
+ghost use Rattle.bus_columns.specs.Buses.{ownItems, endItems};
+ghost use Rattle.assembly.specs.Parts.{generatorColumns, productColumns, flowColumns, branchColumns, mostA};
 
 // The pg and qg columns.
 fn fill_generators(
@@ -120,61 +122,32 @@ fn fill_branches(
     put_costs(starts, rows, vals, a2, l, bytes)
 }
 
-// How many cells bus i has in its own rows, and branch e at its two ends.
-fn count_bus(l: SocWrLayout, bytes: &[u8], i: usize) -> usize
+// How many cells the buses have in their own rows, and the branches in the columns of their ends.
+fn count_buses(l: SocWrLayout, bytes: &[u8]) -> usize
     requires { ⌜ Ready l (now bytes) ⌝ }
-    requires { ⌜ i < l .n ⌝ }
-    ensures { λ x. ⌜ x ≡ busCount l (now (bytes .entry)) i ⌝ }
-    ensures { λ x. ⌜ x ≤ 4 ⌝ }
-{
-    let gs = records::inner::gs(bytes, i);
-    let bs = records::inner::bs(bytes, i);
-    let own = bit_nonzero(-gs) + bit_nonzero(bs);
-    if records::inner::voltage_bound_active(bytes, i) {
-        return own + 2;
-    }
-    own
-}
-
-fn count_ends(l: SocWrLayout, bytes: &[u8], e: usize) -> usize
-    requires { ⌜ Ready l (now bytes) ⌝ }
-    requires { ⌜ e < l .m ⌝ }
-    ensures { λ x. ⌜ x ≡ endCount l (now (bytes .entry)) e ⌝ }
-    ensures { λ x. ⌜ x ≤ 8 ⌝ }
-{
-    let r = l.n + e;
-    let c1 = bit_nonzero(w_value(OhmRow::Pf, bytes, r));
-    let c2 = bit_nonzero(w_value(OhmRow::Qf, bytes, r));
-    let c3 = bit_nonzero(w_value(OhmRow::Pt, bytes, r));
-    let c4 = bit_nonzero(w_value(OhmRow::Qt, bytes, r));
-    c1 + c2 + c3 + c4 + 4
-}
-
-fn count_own(l: SocWrLayout, bytes: &[u8]) -> usize
-    requires { ⌜ Ready l (now bytes) ⌝ }
-    ensures { λ x. ⌜ x ≡ sum (l .n) (busCount l (now (bytes .entry))) ⌝ }
+    ensures { λ x. ⌜ x ≡ sum (l .n) (λ i. length (ownItems l (now (bytes .entry)) i)) ⌝ }
     ensures { λ x. ⌜ x ≤ 4 * l .n ⌝ }
 {
     let n = l.n;
     let mut count = 0;
     let mut i = 0;
     while i < n {
-        count += count_bus(l, bytes, i);
+        count += count_own(l, bytes, i);
         i += 1;
     }
     count
 }
 
-fn count_all_ends(l: SocWrLayout, bytes: &[u8]) -> usize
+fn count_ends(l: SocWrLayout, bytes: &[u8]) -> usize
     requires { ⌜ Ready l (now bytes) ⌝ }
-    ensures { λ x. ⌜ x ≡ sum (l .m) (endCount l (now (bytes .entry))) ⌝ }
+    ensures { λ x. ⌜ x ≡ sum (l .m) (λ e. length (endItems l (now (bytes .entry)) e)) ⌝ }
     ensures { λ x. ⌜ x ≤ 8 * l .m ⌝ }
 {
     let m = l.m;
     let mut count = 0;
     let mut e = 0;
     while e < m {
-        count += count_ends(l, bytes, e);
+        count += count_from(l, bytes, e) + count_to(l, bytes, e);
         e += 1;
     }
     count
@@ -189,7 +162,7 @@ pub fn count_a(l: SocWrLayout, bytes: &[u8]) -> usize
     let mut r = [0u32; 1];
     let mut v = [0.0f64; 1];
     let a1 = fill_generators(&mut s, &mut r, &mut v, 0, l, bytes);
-    let a2 = a1 + count_own(l, bytes) + count_all_ends(l, bytes);
+    let a2 = a1 + count_buses(l, bytes) + count_ends(l, bytes);
     fill_branches(&mut s, &mut r, &mut v, a2, l, bytes)
 }
 

@@ -1,2 +1,3 @@
 pub mod Keys
 pub mod BusColumns
+pub mod Counts
