@@ -1,8 +1,9 @@
 -- The blocks that a chain of tests ends with, and the angle rows. Assumes nothing.
-use Prim.Native.Nat.{ℕ, _+_}
+use Prim.Native.Nat.{ℕ, _+_, _<_}
 use mathlib.Core.Path.{_≡_, refl, _∙_}
 use mathlib.Core.Bool.{Bool, cond}
 use mathlib.Core.List.{List}
+use native.Mathlib.Omega.{arith}
 use lib.Ieee.{Float}
 use Rattle.records.specs.Fields.{angledOf}
 use Rattle.numbering.specs.declared.SocWrLayout.{SocWrLayout}
@@ -15,6 +16,12 @@ last-bus pbal a b c = absurd (a refl)
 last-bus qbal a b c = absurd (b refl)
 last-bus wub a b c = absurd (c refl)
 last-bus wlb a b c = refl
+
+pub bus-few : {p : ℕ} → BusBlock p → p < 8
+bus-few pbal = omega arith
+bus-few qbal = omega arith
+bus-few wub = omega arith
+bus-few wlb = omega arith
 
 pub last-gen : {p : ℕ} → GenBlock p → (p ≡ 8 → ⊥) → (p ≡ 9 → ⊥) → (p ≡ 10 → ⊥) → p ≡ 11
 last-gen pgub a b c = absurd (a refl)

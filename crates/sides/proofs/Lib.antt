@@ -2,3 +2,4 @@ pub mod LastBlock
 pub mod Ratings
 pub mod RightSide
 pub mod Quad
+pub mod Across

@@ -3,6 +3,7 @@ use branch::inner::conic_angle_bound_active;
 use numbering::SocWrLayout;
 ghost use mathlib.Core.Path.{_≡_};
 ghost use mathlib.Core.Bool.{cond};
+ghost use mathlib.Core.List.{_++_};
 ghost use Prim.Native.Nat.{_+_, _*_, _≤_, _<_};
 ghost use lib.ListN.{length};
 ghost use lib.Ieee.{neg};
@@ -82,44 +83,55 @@ fn angle_rhs(l: SocWrLayout, bytes: &[u8], block: usize, e: usize) -> f64
     active(conic_angle_bound_active(bytes, l.n + e), 0.0)
 }
 
+// Two blocks of the buses that follow each other.
 fn fill_buses(out: &mut [f64], at: usize, l: SocWrLayout, bytes: &[u8], block: usize)
     requires { ⌜ Ready l (now bytes) ⌝ }
-    requires { ⌜ BusBlock block ⌝ }
-    requires { ⌜ at + l .n ≤ length (now out) ⌝ }
-    ensures { λ _. ⌜ Filled (listed (l .n) (sideAt l (now (bytes .entry)) block)) (now (out .entry)) at (now (out .exit)) ⌝ }
+    requires { ⌜ BusBlock block × BusBlock (block + 1) ⌝ }
+    requires { ⌜ at + 2 * l .n ≤ length (now out) ⌝ }
+    ensures { λ _. ⌜ Filled (listed (l .n) (sideAt l (now (bytes .entry)) block) ++ listed (l .n) (sideAt l (now (bytes .entry)) (block + 1))) (now (out .entry)) at (now (out .exit)) ⌝ }
 {
     let n = l.n;
+    let second = at + n;
     let mut i = 0;
     while i < n {
         out[at + i] = bus_rhs(l, bytes, block, i);
+        out[second + i] = bus_rhs(l, bytes, block + 1, i);
         i += 1;
     }
 }
 
-fn fill_gens(out: &mut [f64], at: usize, l: SocWrLayout, bytes: &[u8], block: usize)
+// pgub, pglb, qgub and qglb.
+fn fill_capabilities(out: &mut [f64], at: usize, l: SocWrLayout, bytes: &[u8])
     requires { ⌜ Ready l (now bytes) ⌝ }
-    requires { ⌜ GenBlock block ⌝ }
-    requires { ⌜ at + l .k ≤ length (now out) ⌝ }
-    ensures { λ _. ⌜ Filled (listed (l .k) (sideAt l (now (bytes .entry)) block)) (now (out .entry)) at (now (out .exit)) ⌝ }
+    requires { ⌜ at + 4 * l .k ≤ length (now out) ⌝ }
+    ensures { λ _. ⌜ Filled (generatorSides l (now (bytes .entry))) (now (out .entry)) at (now (out .exit)) ⌝ }
 {
     let k = l.k;
+    let a1 = at + k;
+    let a2 = a1 + k;
+    let a3 = a2 + k;
     let mut g = 0;
     while g < k {
-        out[at + g] = gen_rhs(l, bytes, block, g);
+        out[at + g] = gen_rhs(l, bytes, 8, g);
+        out[a1 + g] = gen_rhs(l, bytes, 9, g);
+        out[a2 + g] = gen_rhs(l, bytes, 10, g);
+        out[a3 + g] = gen_rhs(l, bytes, 11, g);
         g += 1;
     }
 }
 
-fn fill_angles(out: &mut [f64], at: usize, l: SocWrLayout, bytes: &[u8], block: usize)
+// angub and anglb.
+fn fill_angles(out: &mut [f64], at: usize, l: SocWrLayout, bytes: &[u8])
     requires { ⌜ Ready l (now bytes) ⌝ }
-    requires { ⌜ AngleBlock block ⌝ }
-    requires { ⌜ at + l .m ≤ length (now out) ⌝ }
-    ensures { λ _. ⌜ Filled (listed (l .m) (sideAt l (now (bytes .entry)) block)) (now (out .entry)) at (now (out .exit)) ⌝ }
+    requires { ⌜ at + 2 * l .m ≤ length (now out) ⌝ }
+    ensures { λ _. ⌜ Filled (listed (l .m) (sideAt l (now (bytes .entry)) 12) ++ listed (l .m) (sideAt l (now (bytes .entry)) 13)) (now (out .entry)) at (now (out .exit)) ⌝ }
 {
     let m = l.m;
+    let second = at + m;
     let mut e = 0;
     while e < m {
-        out[at + e] = angle_rhs(l, bytes, block, e);
+        out[at + e] = angle_rhs(l, bytes, 12, e);
+        out[second + e] = angle_rhs(l, bytes, 13, e);
         e += 1;
     }
 }
@@ -199,7 +211,6 @@ fn fill_equalities(out: &mut [f64], l: SocWrLayout, bytes: &[u8])
     let ohm = 2 * l.n;
     let zeros = 4 * l.m;
     fill_buses(out, 0, l, bytes, 0);
-    fill_buses(out, l.n, l, bytes, 1);
     fill_all(out, ohm, zeros, 0.0);
 }
 
@@ -208,23 +219,7 @@ fn fill_voltages(out: &mut [f64], at: usize, l: SocWrLayout, bytes: &[u8])
     requires { ⌜ at + 2 * l .n ≤ length (now out) ⌝ }
     ensures { λ _. ⌜ Filled (voltageSides l (now (bytes .entry))) (now (out .entry)) at (now (out .exit)) ⌝ }
 {
-    let lower = at + l.n;
     fill_buses(out, at, l, bytes, 6);
-    fill_buses(out, lower, l, bytes, 7);
-}
-
-fn fill_capabilities(out: &mut [f64], at: usize, l: SocWrLayout, bytes: &[u8])
-    requires { ⌜ Ready l (now bytes) ⌝ }
-    requires { ⌜ at + 4 * l .k ≤ length (now out) ⌝ }
-    ensures { λ _. ⌜ Filled (generatorSides l (now (bytes .entry))) (now (out .entry)) at (now (out .exit)) ⌝ }
-{
-    let a1 = at + l.k;
-    let a2 = a1 + l.k;
-    let a3 = a2 + l.k;
-    fill_gens(out, at, l, bytes, 8);
-    fill_gens(out, a1, l, bytes, 9);
-    fill_gens(out, a2, l, bytes, 10);
-    fill_gens(out, a3, l, bytes, 11);
 }
 
 // The angle, cost, jabr and thermal rows.
@@ -234,16 +229,14 @@ fn fill_others(out: &mut [f64], at: usize, l: SocWrLayout, bytes: &[u8])
     ensures { λ _. ⌜ Filled (otherSides l (now (bytes .entry))) (now (out .entry)) at (now (out .exit)) ⌝ }
 {
     let first = l.n + l.m + l.k;
-    let a1 = at + l.m;
-    let a2 = a1 + l.m;
-    let a3 = a2 + l.s;
+    let a1 = at + 2 * l.m;
+    let a2 = a1 + l.s;
     let zeros = 4 * l.m;
-    let a4 = a3 + zeros;
-    fill_angles(out, at, l, bytes, 12);
-    fill_angles(out, a1, l, bytes, 13);
-    fill_intercepts(out, a2, bytes, first, l.s);
-    fill_all(out, a3, zeros, 0.0);
-    fill_ratings(out, a4, l, bytes);
+    let a3 = a2 + zeros;
+    fill_angles(out, at, l, bytes);
+    fill_intercepts(out, a1, bytes, first, l.s);
+    fill_all(out, a2, zeros, 0.0);
+    fill_ratings(out, a3, l, bytes);
 }
 
 // All of b.

@@ -1,48 +1,65 @@
 -- `sides::inner::fill_capabilities` meets its contract. Assumes nothing.
 use borrow.Author.Needs.{needs}
+use Prim.Native.Nat.{_≤_, _+_, _-_}
+use mathlib.Core.Path.{_≡_, refl}
+use mathlib.Core.List.{[], _∷_}
 use native.Mathlib.Omega.{arith}
-use mathlib.Core.List.{_++_}
-use lib.ListN.{length-append}
 use denote.Ref.{now}
-use Rattle.lists.specs.UpTo.{listed}
-use Rattle.sides.specs.Sides.{sideAt}
-use Rattle.cells.proofs.Fills.{filled-then, listed-length}
-use Rattle.sides.specs.Sides.{pgub, pglb, qgub, qglb, generatorSides}
+use lib.ListN.{length-set}
+use Rattle.sides.specs.Sides.{pgub, pglb, qgub, qglb, sideAt, generatorSides}
+use Rattle.sides.proofs.Across.{Across, across-none, across-four, across-length, filled-four}
 use Rattle.sides.proofs.inner.fill_capabilities.Statement.{statement}
 use Rattle.sides.proofs.inner.fill_capabilities.Tie as tie
 
-fill-gens-requires : tie.Need-fill-gens-requires
-fill-gens-requires c κs = (c .before .before .before .before .before .before .pre .0, (pgub, omega arith))
+abbrev Inv-loop : tie.InvT-loop
+Inv-loop out₀ at l bytes k a1 a2 a3 g₀ out g =
+    (g ≤ k) × (k ≡ l .k) × ((a1 ≡ at + k) × (a2 ≡ a1 + k) × (a3 ≡ a2 + k)) × Across k g (sideAt l bytes 8 ∷ sideAt l bytes 9 ∷ sideAt l bytes 10 ∷ sideAt l bytes 11 ∷ []) at out₀ out
 
-fill-gens-requires-2 : tie.Need-fill-gens-requires-2
-fill-gens-requires-2 c κs = (c .before .before .before .before .before .before .before .before .before .before .pre .0, (pglb, omega arith))
+abbrev μ-loop : tie.MeasureT-loop
+μ-loop out₀ at l bytes k a1 a2 a3 g₀ out g = k - g
 
-fill-gens-requires-3 : tie.Need-fill-gens-requires-3
-fill-gens-requires-3 c κs = (c .before .before .before .before .before .before .before .before .before .before .before .before .before .before .pre .0, (qgub, omega arith))
+loop-holds : tie.Need-loop-holds Inv-loop μ-loop
+loop-holds c = (omega arith, refl, (refl, refl, refl), across-none _ _)
 
-fill-gens-requires-4 : tie.Need-fill-gens-requires-4
-fill-gens-requires-4 c κs = (c .before .before .before .before .before .before .before .before .before .before .before .before .before .before .before .before .before .before .pre .0, (qglb, omega arith))
+gen-rhs-requires : tie.Need-gen-rhs-requires Inv-loop μ-loop
+gen-rhs-requires c κs = (c .before .before .before .before .pre .0, (pgub, omega arith))
 
-returns : tie.Need-returns
+slice-write-out : tie.Need-slice-write-out Inv-loop μ-loop
+slice-write-out c = omega (arith, across-length (c .before .before .loop .inv .3))
+
+gen-rhs-requires-2 : tie.Need-gen-rhs-requires-2 Inv-loop μ-loop
+gen-rhs-requires-2 c κs = (c .before .before .before .before .before .pre .0, (pglb, omega arith))
+
+slice-write-out-2 : tie.Need-slice-write-out-2 Inv-loop μ-loop
+slice-write-out-2 c = simp length-set (omega (arith, across-length (c .before .before .before .loop .inv .3)))
+
+gen-rhs-requires-3 : tie.Need-gen-rhs-requires-3 Inv-loop μ-loop
+gen-rhs-requires-3 c κs = (c .before .before .before .before .before .before .pre .0, (qgub, omega arith))
+
+slice-write-out-3 : tie.Need-slice-write-out-3 Inv-loop μ-loop
+slice-write-out-3 c = simp length-set (omega (arith, across-length (c .before .before .before .before .loop .inv .3)))
+
+gen-rhs-requires-4 : tie.Need-gen-rhs-requires-4 Inv-loop μ-loop
+gen-rhs-requires-4 c κs = (c .before .before .before .before .before .before .before .pre .0, (qglb, omega arith))
+
+slice-write-out-4 : tie.Need-slice-write-out-4 Inv-loop μ-loop
+slice-write-out-4 c = simp length-set (omega (arith, across-length (c .before .before .before .before .before .loop .inv .3)))
+
+loop-again : tie.Need-loop-again Inv-loop μ-loop
+loop-again c =
+    let a = c .before .before .before .before .before .before .before .before .args in
+    let o = c .before .before .before .before .before .loop .inv in
+    (omega arith, o .1, o .2, across-four (sideAt (a .l) (now (a .bytes)) 8) (sideAt (a .l) (now (a .bytes)) 9) (sideAt (a .l) (now (a .bytes)) 10) (sideAt (a .l) (now (a .bytes)) 11) (o .3) (omega arith) (o .2 .0) (o .2 .1) (o .2 .2) (c .before .before .before .gen-rhs .ensures) (c .before .before .gen-rhs2 .ensures) (c .before .gen-rhs3 .ensures) (c .gen-rhs4 .ensures))
+
+same-length : tie.Need-same-length Inv-loop μ-loop
+same-length c = across-length (c .before .loop .inv .3)
+
+returns : tie.Need-returns Inv-loop μ-loop
 unfolding generatorSides
 returns c =
-    let a = c .before .before .before .before .before .before .before .before .before .before .before .before .before .before .before .before .before .before .before .before .before .args in
-    let f = sideAt (a .l) (now (a .bytes)) in
-    let k = a .l .k in
-    filled-then
-    (filled-then
-    (filled-then (c .before .before .before .before .before .before .before .before .before .before .before .before .before .before .fill-gens .ensures) (omega (arith, listed-length (f 8) k)) (c .before .before .before .before .before .before .before .before .before .before .fill-gens2 .ensures))
-    (omega (arith, length-append (listed k (f 8)) (listed k (f 9)), listed-length (f 8) k, listed-length (f 9) k))
-    (c .before .before .before .before .before .before .fill-gens3 .ensures))
-    (omega (
-      arith,
-      length-append (listed k (f 8) ++ listed k (f 9)) (listed k (f 10)),
-      length-append (listed k (f 8)) (listed k (f 9)),
-      listed-length (f 8) k,
-      listed-length (f 9) k,
-      listed-length (f 10) k,
-    ))
-    (c .before .before .fill-gens4 .ensures)
+    let a = c .before .before .before .before .args in
+    let o = c .before .loop in
+    filled-four (sideAt (a .l) (now (a .bytes)) 8) (sideAt (a .l) (now (a .bytes)) 9) (sideAt (a .l) (now (a .bytes)) 10) (sideAt (a .l) (now (a .bytes)) 11) (omega arith) (rw (o .inv .1) at (o .inv .3))
 
 pub fill-capabilities-spec : {M : Type 1} → statement M
-fill-capabilities-spec = tie.close (tie.spec (λ c. search needs) (λ c. search needs) (λ c. search needs) fill-gens-requires fill-gens-requires-2 fill-gens-requires-3 fill-gens-requires-4 (λ c. search needs) returns)
+fill-capabilities-spec = tie.close (tie.spec Inv-loop μ-loop (λ c. search needs) (λ c. search needs) (λ c. search needs) loop-holds gen-rhs-requires (λ c. search needs) (λ c. search needs) slice-write-out gen-rhs-requires-2 (λ c. search needs) (λ c. search needs) slice-write-out-2 gen-rhs-requires-3 (λ c. search needs) (λ c. search needs) slice-write-out-3 gen-rhs-requires-4 (λ c. search needs) (λ c. search needs) slice-write-out-4 (λ c. search needs) (λ c. search needs) loop-again same-length returns)

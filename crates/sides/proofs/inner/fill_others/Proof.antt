@@ -8,32 +8,16 @@ use denote.Ref.{now}
 use lib.Ieee.{Float, neg}
 use Rattle.lists.specs.UpTo.{listed}
 use Rattle.records.specs.Fields.{interceptOf}
-use Rattle.sides.specs.Sides.{sideAt}
-use Rattle.cells.proofs.Fills.{filled-then, kept-length, listed-length}
-use Rattle.sides.specs.Sides.{angub, anglb, otherSides}
 use Rattle.rows.specs.Rows.{zero64}
+use Rattle.cells.proofs.Fills.{filled-then, listed-length}
+use Rattle.sides.specs.Sides.{sideAt, otherSides}
 use Rattle.sides.proofs.inner.fill_others.Statement.{statement}
 use Rattle.sides.proofs.inner.fill_others.Tie as tie
-
-fill-angles-requires : tie.Need-fill-angles-requires
-fill-angles-requires c κs = (c .before .before .before .before .before .before .before .before .before .pre .0, (angub, omega arith))
-
-fill-angles-requires-2 : tie.Need-fill-angles-requires-2
-fill-angles-requires-2 c κs = (c .before .before .before .before .before .before .before .before .before .before .before .before .before .pre .0, (anglb, omega arith))
-
-fill-intercepts-requires : tie.Need-fill-intercepts-requires
-fill-intercepts-requires c κs = (rw (c .before .before .before .before .before .before .before .before .before .before .before .before .before .before .before .before .before .pre .0 .accepted .size) (omega arith), omega arith)
-
-fill-all-requires : tie.Need-fill-all-requires
-fill-all-requires c κs = omega (arith, c .before .before .before .before .before .before .before .before .before .before .before .before .before .before .before .before .before .before .before .before .before .pre .1, kept-length (c .before .before .before .before .before .before .before .before .before .before .before .fill-angles .ensures), kept-length (c .before .before .before .before .before .before .before .fill-angles2 .ensures), kept-length (c .before .before .before .fill-intercepts .ensures))
-
-fill-ratings-requires : tie.Need-fill-ratings-requires
-fill-ratings-requires c κs = (c .before .before .before .before .before .before .before .before .before .before .before .before .before .before .before .before .before .before .before .before .before .before .before .before .before .pre .0, omega (arith, c .before .before .before .before .before .before .before .before .before .before .before .before .before .before .before .before .before .before .before .before .before .before .before .before .before .pre .1, kept-length (c .before .before .before .before .before .before .before .before .before .before .before .before .before .before .before .fill-angles .ensures), kept-length (c .before .before .before .before .before .before .before .before .before .before .before .fill-angles2 .ensures), kept-length (c .before .before .before .before .before .before .before .fill-intercepts .ensures), kept-length (c .before .before .before .fill-all .ensures)))
 
 returns : tie.Need-returns
 unfolding otherSides
 returns c =
-    let a = c .before .before .before .before .before .before .before .before .before .before .before .before .before .before .before .before .before .before .before .before .before .before .before .before .before .before .before .before .args in
+    let a = c .before .before .before .before .before .before .before .before .before .before .before .before .before .before .before .before .before .before .before .before .before .before .before .args in
     let f = sideAt (a .l) (now (a .bytes)) in
     let x = listed (a .l .m) (f 12) in
     let y = listed (a .l .m) (f 13) in
@@ -46,12 +30,9 @@ returns c =
     let ly = listed-length (f 13) (a .l .m) in
     let lu = listed-length i (a .l .s) in
     filled-then
-    (filled-then
-    (filled-then (filled-then (c .before .before .before .before .before .before .before .before .before .before .before .before .before .before .before .before .before .before .fill-angles .ensures) (omega arith) (c .before .before .before .before .before .before .before .before .before .before .before .before .before .before .fill-angles2 .ensures)) (omega arith) (c .before .before .before .before .before .before .before .before .before .before .fill-intercepts .ensures))
-    (omega arith)
-    (c .before .before .before .before .before .before .fill-all .ensures))
+    (filled-then (filled-then (c .before .before .before .before .before .before .before .before .before .before .before .before .before .before .fill-angles .ensures) (omega arith) (c .before .before .before .before .before .before .before .before .before .before .fill-intercepts .ensures)) (omega arith) (c .before .before .before .before .before .before .fill-all .ensures))
     (omega (arith, length-append (x ++ y ++ u) z, listed-length (λ e. zero64) (4 * a .l .m)))
     (c .before .before .fill-ratings .ensures)
 
 pub fill-others-spec : {M : Type 1} → statement M
-fill-others-spec = tie.close (tie.spec (λ c. search needs) (λ c. search needs) (λ c. search needs) (λ c. search needs) (λ c. search needs) (λ c. search needs) (λ c. search needs) fill-angles-requires fill-angles-requires-2 fill-intercepts-requires fill-all-requires fill-ratings-requires (λ c. search needs) returns)
+fill-others-spec = tie.close (tie.spec (λ c. search needs) (λ c. search needs) (λ c. search needs) (λ c. search needs) (λ c. search needs) (λ c. search needs) (λ c. search needs) (λ c κs. search needs) (λ c κs. search needs) (λ c κs. search needs) (λ c κs. search needs) (λ c. search needs) returns)
