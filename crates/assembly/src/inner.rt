@@ -18,9 +18,9 @@ ghost use Rattle.lists.specs.UpTo.{listed, sum};
 ghost use Rattle.lists.specs.Compressed.{cellOut, joined};
 ghost use Rattle.rows.specs.Program.{matrix};
 ghost use Rattle.matrix.specs.Columns.{wCells};
-ghost use Rattle.cells.specs.Ready.{Ready, netOf};
 ghost use Rattle.cells.specs.Columns.{Columns, Whole};
 ghost use Rattle.assembly.specs.Parts.{generatorColumns, productColumns, flowColumns, branchColumns, busCount, endCount, mostA};
+ghost use Rattle.numbering.specs.Laid.{netOf, Laid};
 
 // The pg and qg columns.
 fn fill_generators(
@@ -31,7 +31,7 @@ fn fill_generators(
     l: SocWrLayout,
     bytes: &[u8],
 ) -> usize
-    requires { ⌜ Ready l (now bytes) ⌝ }
+    requires { ⌜ Laid l (now bytes) ⌝ }
     requires { ⌜ at ≡ 0 ⌝ }
     ensures { λ x. ⌜ Columns (generatorColumns (netOf l (now (bytes .entry)))) 0 (now (starts .entry)) (cellOut (now (rows .entry)) (now (vals .entry)) at) (now (starts .exit)) (cellOut (now (rows .exit)) (now (vals .exit)) x) ⌝ }
     ensures { λ x. ⌜ x ≤ 6 * l .k + l .s ⌝ }
@@ -49,7 +49,7 @@ fn fill_buses(
     l: SocWrLayout,
     bytes: &[u8],
 ) -> usize
-    requires { ⌜ Ready l (now bytes) ⌝ }
+    requires { ⌜ Laid l (now bytes) ⌝ }
     requires { ⌜ (at < 900000) × (2 * l .k + l .n + 1 ≤ length (now starts)) ⌝ }
     ensures { λ x. ⌜ Columns (listed (l .n) (wCells (netOf l (now (bytes .entry))))) (2 * l .k) (now (starts .entry)) (cellOut (now (rows .entry)) (now (vals .entry)) at) (now (starts .exit)) (cellOut (now (rows .exit)) (now (vals .exit)) x) ⌝ }
     ensures { λ x. ⌜ x ≤ at + 4 * l .n + 8 * l .m ⌝ }
@@ -68,7 +68,7 @@ fn fill_products(
     l: SocWrLayout,
     bytes: &[u8],
 ) -> usize
-    requires { ⌜ Ready l (now bytes) ⌝ }
+    requires { ⌜ Laid l (now bytes) ⌝ }
     requires { ⌜ at < 500000 ⌝ }
     ensures { λ x. ⌜ Columns (productColumns (netOf l (now (bytes .entry)))) (2 * l .k + l .n) (now (starts .entry)) (cellOut (now (rows .entry)) (now (vals .entry)) at) (now (starts .exit)) (cellOut (now (rows .exit)) (now (vals .exit)) x) ⌝ }
     ensures { λ x. ⌜ x ≤ at + 14 * l .m ⌝ }
@@ -86,7 +86,7 @@ fn fill_flows(
     l: SocWrLayout,
     bytes: &[u8],
 ) -> usize
-    requires { ⌜ Ready l (now bytes) ⌝ }
+    requires { ⌜ Laid l (now bytes) ⌝ }
     requires { ⌜ at < 700000 ⌝ }
     ensures { λ x. ⌜ Columns (flowColumns (netOf l (now (bytes .entry)))) (2 * l .k + l .n + 2 * l .m) (now (starts .entry)) (cellOut (now (rows .entry)) (now (vals .entry)) at) (now (starts .exit)) (cellOut (now (rows .exit)) (now (vals .exit)) x) ⌝ }
     ensures { λ x. ⌜ x ≤ at + 12 * l .m ⌝ }
@@ -110,7 +110,7 @@ fn fill_branches(
     l: SocWrLayout,
     bytes: &[u8],
 ) -> usize
-    requires { ⌜ Ready l (now bytes) ⌝ }
+    requires { ⌜ Laid l (now bytes) ⌝ }
     requires { ⌜ at < 300000 ⌝ }
     ensures { λ x. ⌜ Columns (branchColumns (netOf l (now (bytes .entry)))) (2 * l .k + l .n) (now (starts .entry)) (cellOut (now (rows .entry)) (now (vals .entry)) at) (now (starts .exit)) (cellOut (now (rows .exit)) (now (vals .exit)) x) ⌝ }
     ensures { λ x. ⌜ x ≤ at + 26 * l .m + l .s ⌝ }
@@ -122,7 +122,7 @@ fn fill_branches(
 
 // How many cells bus i has in its own rows, and branch e at its two ends.
 fn count_bus(l: SocWrLayout, bytes: &[u8], i: usize) -> usize
-    requires { ⌜ Ready l (now bytes) ⌝ }
+    requires { ⌜ Laid l (now bytes) ⌝ }
     requires { ⌜ i < l .n ⌝ }
     ensures { λ x. ⌜ x ≡ busCount l (now (bytes .entry)) i ⌝ }
     ensures { λ x. ⌜ x ≤ 4 ⌝ }
@@ -137,7 +137,7 @@ fn count_bus(l: SocWrLayout, bytes: &[u8], i: usize) -> usize
 }
 
 fn count_ends(l: SocWrLayout, bytes: &[u8], e: usize) -> usize
-    requires { ⌜ Ready l (now bytes) ⌝ }
+    requires { ⌜ Laid l (now bytes) ⌝ }
     requires { ⌜ e < l .m ⌝ }
     ensures { λ x. ⌜ x ≡ endCount l (now (bytes .entry)) e ⌝ }
     ensures { λ x. ⌜ x ≤ 8 ⌝ }
@@ -151,7 +151,7 @@ fn count_ends(l: SocWrLayout, bytes: &[u8], e: usize) -> usize
 }
 
 fn count_own(l: SocWrLayout, bytes: &[u8]) -> usize
-    requires { ⌜ Ready l (now bytes) ⌝ }
+    requires { ⌜ Laid l (now bytes) ⌝ }
     ensures { λ x. ⌜ x ≡ sum (l .n) (busCount l (now (bytes .entry))) ⌝ }
     ensures { λ x. ⌜ x ≤ 4 * l .n ⌝ }
 {
@@ -166,7 +166,7 @@ fn count_own(l: SocWrLayout, bytes: &[u8]) -> usize
 }
 
 fn count_all_ends(l: SocWrLayout, bytes: &[u8]) -> usize
-    requires { ⌜ Ready l (now bytes) ⌝ }
+    requires { ⌜ Laid l (now bytes) ⌝ }
     ensures { λ x. ⌜ x ≡ sum (l .m) (endCount l (now (bytes .entry))) ⌝ }
     ensures { λ x. ⌜ x ≤ 8 * l .m ⌝ }
 {
@@ -182,7 +182,7 @@ fn count_all_ends(l: SocWrLayout, bytes: &[u8]) -> usize
 
 // How many entries A has: the writers run on places that are dropped, and the cells of the buses are counted.
 pub fn count_a(l: SocWrLayout, bytes: &[u8]) -> usize
-    requires { ⌜ Ready l (now bytes) ⌝ }
+    requires { ⌜ Laid l (now bytes) ⌝ }
     ensures { λ x. ⌜ x ≡ length (joined (matrix (netOf l (now (bytes .entry))))) ⌝ }
 {
     let mut s = [0u32; 1];
@@ -201,7 +201,7 @@ pub fn fill_a(
     l: SocWrLayout,
     bytes: &[u8],
 ) -> usize
-    requires { ⌜ Ready l (now bytes) ⌝ }
+    requires { ⌜ Laid l (now bytes) ⌝ }
     requires { ⌜ 2 * l .k + l .n + 1 ≤ length (now starts) ⌝ }
     ensures { λ x. ⌜ Whole (matrix (netOf l (now (bytes .entry)))) (now (starts .entry)) (now (rows .entry)) (now (vals .entry)) (now (starts .exit)) (now (rows .exit)) (now (vals .exit)) x ⌝ }
     ensures { λ x. ⌜ x ≤ mostA l ⌝ }

@@ -1,6 +1,6 @@
 -- What the entries answer. Assumes nothing.
 use Prim.Native.Nat.{ℕ, _≤_, _<_}
-use mathlib.Core.Path.{_≡_, refl, sym, ap, subst, _∙_}
+use mathlib.Core.Path.{_≡_, sym, ap, subst, _∙_}
 use mathlib.Core.Bool.{true}
 use mathlib.Core.List.{List}
 use native.Mathlib.Omega.{arith}
@@ -18,12 +18,10 @@ use Rattle.refusals.specs.declared.Written.{Written}
 use Rattle.refusals.specs.declared.Written.the-variants as Written
 use Rattle.refusals.proofs.Laws.{orElse-refused, accepted-first, left-written, left-alone, left-refused, count-written, count-refused, count-any, held, failed}
 use Rattle.records.specs.Network.{networkOf}
-use Rattle.records.specs.Network as Network
 use Rattle.records.specs.AcNetwork.{AcNetwork}
 use Rattle.numbering.specs.Layout.{layoutOf}
-use Rattle.numbering.proofs.Layouts.{accepted-range}
+use Rattle.numbering.specs.Laid.{netOf}
 use Rattle.numbering.specs.declared.SocWrLayout.{SocWrLayout}
-use Rattle.cells.specs.Ready.{Ready, netOf}
 use Rattle.program.specs.Answered.{floatsCheck, FloatsWritten, columnsCheck, ColumnsWritten}
 use Rattle.cells.specs.Columns.{Whole}
 use Rattle.cells.proofs.Ends.{whole-count, whole-starts, whole-rows, whole-vals}
@@ -31,9 +29,6 @@ use Rattle.cells.proofs.Ends.{whole-count, whole-starts, whole-rows, whole-vals
 -- ---- accepted records
 
 module _ (n m k s : ℕ) (b : List ℕ) {l : SocWrLayout} where
-  pub ready : Network.Accepted n m k s b → l ≡ layoutOf (networkOf n m k s b) → Ready l b
-  ready a e = subst (λ (x : SocWrLayout). Ready x b) (sym e) (record { accepted = a; range = accepted-range n m k s b a; limits-are = refl; curves-are = refl })
-
   pub net-is : l ≡ layoutOf (networkOf n m k s b) → netOf l b ≡ networkOf n m k s b
   net-is e = ap (λ (x : SocWrLayout). netOf x b) e
 

@@ -10,8 +10,8 @@ ghost use lib.ListN.{length};
 ghost use Rattle.refusals.specs.declared.Checked.the-variants.{Accepted};
 ghost use Rattle.numbering.specs.Blocks.{total};
 ghost use Rattle.numbering.specs.Layout.{layoutColumns, InRange};
+ghost use Rattle.numbering.specs.Laid.{netOf, Laid};
 ghost use Rattle.rows.specs.Program.{matrix};
-ghost use Rattle.cells.specs.Ready.{Ready, netOf};
 ghost use Rattle.assembly.specs.Parts.{mostA};
 ghost use Rattle.program.specs.Answered.{ColumnsWritten};
 
@@ -29,7 +29,7 @@ fn put_counted(
     l: SocWrLayout,
     bytes: &[u8],
 ) -> Written
-    requires { ⌜ Ready l (now bytes) ⌝ }
+    requires { ⌜ Laid l (now bytes) ⌝ }
     requires { ⌜ total (layoutColumns l) + 1 ≤ length (now starts) ⌝ }
     ensures { λ r. ⌜ ColumnsWritten Accepted (matrix (netOf l (now (bytes .entry)))) (now (starts .entry)) (now (rows .entry)) (now (values .entry)) (now (starts .exit)) (now (rows .exit)) (now (values .exit)) r ⌝ }
 {
@@ -51,7 +51,7 @@ pub(crate) fn put_a(
     l: SocWrLayout,
     bytes: &[u8],
 ) -> Written
-    requires { ⌜ Ready l (now bytes) ⌝ }
+    requires { ⌜ Laid l (now bytes) ⌝ }
     requires { ⌜ total (layoutColumns l) + 1 ≤ length (now starts) ⌝ }
     ensures { λ r. ⌜ ColumnsWritten Accepted (matrix (netOf l (now (bytes .entry)))) (now (starts .entry)) (now (rows .entry)) (now (values .entry)) (now (starts .exit)) (now (rows .exit)) (now (values .exit)) r ⌝ }
 {

@@ -4,11 +4,12 @@ use native.Mathlib.Omega.{arith}
 use denote.Ref.{now}
 use Rattle.records.specs.Check.{checkOf}
 use Rattle.records.proofs.Laws.{accepted}
+use Rattle.numbering.proofs.Laid.{laid}
 use Rattle.refusals.proofs.Laws.{passed}
 use Rattle.refusals.specs.declared.Checked.the-variants.{Accepted}
 use Rattle.rows.specs.Program.{matrix}
 use Rattle.assembly.proofs.PartsOfA.{matrix-starts}
-use Rattle.program.proofs.Answers.{ready, net-is, columns-refused, short-starts, columns-checked, columns-of}
+use Rattle.program.proofs.Answers.{net-is, columns-refused, short-starts, columns-checked, columns-of}
 use borrow.Author.Needs.{needs}
 use Rattle.program.proofs.program_a.Statement.{statement}
 use Rattle.program.proofs.program_a.Tie as tie
@@ -28,7 +29,7 @@ nvar-requires c κs =
     let a = c .before .before .before .before .before .before .before .before .args in
     let b = now (a .bytes) in
     let o : checkOf (a .n) (a .m) (a .k) (a .s) b ≡ Accepted = sym (c .before .before .before .check-records .ensures) ∙ passed _ (sym (c .before .before .is-refused .ensures) ∙ c .before .if1 .left) in
-    let r = ready (a .n) (a .m) (a .k) (a .s) b (accepted (a .n) (a .m) (a .k) (a .s) b o) (c .layout .ensures) in
+    let r = laid (a .n) (a .m) (a .k) (a .s) b (accepted (a .n) (a .m) (a .k) (a .s) b o) (c .layout .ensures) in
     r .range
 
 returns-2 : tie.Need-returns-2
@@ -36,7 +37,7 @@ returns-2 c =
     let a = c .before .before .before .before .before .before .before .before .before .before .args in
     let b = now (a .bytes) in
     let o : checkOf (a .n) (a .m) (a .k) (a .s) b ≡ Accepted = sym (c .before .before .before .before .before .check-records .ensures) ∙ passed _ (sym (c .before .before .before .before .is-refused .ensures) ∙ c .before .before .before .if1 .left) in
-    let r = ready (a .n) (a .m) (a .k) (a .s) b (accepted (a .n) (a .m) (a .k) (a .s) b o) (c .before .before .layout .ensures) in
+    let r = laid (a .n) (a .m) (a .k) (a .s) b (accepted (a .n) (a .m) (a .k) (a .s) b o) (c .before .before .layout .ensures) in
     let e = net-is (a .n) (a .m) (a .k) (a .s) b (c .before .before .layout .ensures) in
     let hs = matrix-starts (c .before .before .layout .result) b r in
     columns-of matrix e (short-starts o (omega (arith, hs, c .before .nvar .ensures)) (c .if2 .taken))
@@ -46,7 +47,7 @@ put-a-requires c κs =
     let a = c .before .before .before .before .before .before .before .before .before .before .before .before .before .args in
     let b = now (a .bytes) in
     let o : checkOf (a .n) (a .m) (a .k) (a .s) b ≡ Accepted = sym (c .before .before .before .before .before .before .before .before .check-records .ensures) ∙ passed _ (sym (c .before .before .before .before .before .before .before .is-refused .ensures) ∙ c .before .before .before .before .before .before .if1 .left) in
-    let r = ready (a .n) (a .m) (a .k) (a .s) b (accepted (a .n) (a .m) (a .k) (a .s) b o) (c .before .before .before .before .before .layout .ensures) in
+    let r = laid (a .n) (a .m) (a .k) (a .s) b (accepted (a .n) (a .m) (a .k) (a .s) b o) (c .before .before .before .before .before .layout .ensures) in
     (r, omega (arith, c .before .before .before .before .nvar .ensures, c .before .before .before .if2 .left))
 
 returns-3 : tie.Need-returns-3

@@ -5,11 +5,12 @@ use native.Mathlib.Omega.{arith}
 use denote.Ref.{now}
 use Rattle.records.specs.Check.{checkOf}
 use Rattle.records.proofs.Laws.{accepted}
+use Rattle.numbering.proofs.Laid.{laid}
 use Rattle.refusals.proofs.Laws.{passed}
 use Rattle.refusals.specs.declared.Checked.the-variants.{Accepted}
 use Rattle.matrix.specs.Lists.{quadraticMatrix}
 use Rattle.sides.proofs.Quad.{quad-count, quad-starts}
-use Rattle.program.proofs.Answers.{ready, net-is, columns-refused, short-starts, short-rows, short-vals, columns-written, columns-of}
+use Rattle.program.proofs.Answers.{net-is, columns-refused, short-starts, short-rows, short-vals, columns-written, columns-of}
 use Rattle.program.proofs.program_p.Statement.{statement}
 use Rattle.program.proofs.program_p.Tie as tie
 
@@ -28,7 +29,7 @@ nvar-requires c κs =
     let a = c .before .before .before .before .before .before .before .before .args in
     let b = now (a .bytes) in
     let o : checkOf (a .n) (a .m) (a .k) (a .s) b ≡ Accepted = sym (c .before .before .before .check-records .ensures) ∙ passed _ (sym (c .before .before .is-refused .ensures) ∙ c .before .if1 .left) in
-    let r = ready (a .n) (a .m) (a .k) (a .s) b (accepted (a .n) (a .m) (a .k) (a .s) b o) (c .layout .ensures) in
+    let r = laid (a .n) (a .m) (a .k) (a .s) b (accepted (a .n) (a .m) (a .k) (a .s) b o) (c .layout .ensures) in
     r .range
 
 returns-2 : tie.Need-returns-2
@@ -36,7 +37,7 @@ returns-2 c =
     let a = c .before .before .before .before .before .before .before .before .before .before .args in
     let b = now (a .bytes) in
     let o : checkOf (a .n) (a .m) (a .k) (a .s) b ≡ Accepted = sym (c .before .before .before .before .before .check-records .ensures) ∙ passed _ (sym (c .before .before .before .before .is-refused .ensures) ∙ c .before .before .before .if1 .left) in
-    let r = ready (a .n) (a .m) (a .k) (a .s) b (accepted (a .n) (a .m) (a .k) (a .s) b o) (c .before .before .layout .ensures) in
+    let r = laid (a .n) (a .m) (a .k) (a .s) b (accepted (a .n) (a .m) (a .k) (a .s) b o) (c .before .before .layout .ensures) in
     let e = net-is (a .n) (a .m) (a .k) (a .s) b (c .before .before .layout .ensures) in
     let hs = quad-starts (c .before .before .layout .result) b r in
     columns-of quadraticMatrix e (short-starts o (omega (arith, hs, c .before .nvar .ensures)) (c .if2 .taken))
@@ -46,7 +47,7 @@ count-p-requires c κs =
     let a = c .before .before .before .before .before .before .before .before .before .before .args in
     let b = now (a .bytes) in
     let o : checkOf (a .n) (a .m) (a .k) (a .s) b ≡ Accepted = sym (c .before .before .before .before .before .check-records .ensures) ∙ passed _ (sym (c .before .before .before .before .is-refused .ensures) ∙ c .before .before .before .if1 .left) in
-    let r = ready (a .n) (a .m) (a .k) (a .s) b (accepted (a .n) (a .m) (a .k) (a .s) b o) (c .before .before .layout .ensures) in
+    let r = laid (a .n) (a .m) (a .k) (a .s) b (accepted (a .n) (a .m) (a .k) (a .s) b o) (c .before .before .layout .ensures) in
     r
 
 returns-3 : tie.Need-returns-3
@@ -54,7 +55,7 @@ returns-3 c =
     let a = c .before .before .before .before .before .before .before .before .before .before .before .before .args in
     let b = now (a .bytes) in
     let o : checkOf (a .n) (a .m) (a .k) (a .s) b ≡ Accepted = sym (c .before .before .before .before .before .before .before .check-records .ensures) ∙ passed _ (sym (c .before .before .before .before .before .before .is-refused .ensures) ∙ c .before .before .before .before .before .if1 .left) in
-    let r = ready (a .n) (a .m) (a .k) (a .s) b (accepted (a .n) (a .m) (a .k) (a .s) b o) (c .before .before .before .before .layout .ensures) in
+    let r = laid (a .n) (a .m) (a .k) (a .s) b (accepted (a .n) (a .m) (a .k) (a .s) b o) (c .before .before .before .before .layout .ensures) in
     let e = net-is (a .n) (a .m) (a .k) (a .s) b (c .before .before .before .before .layout .ensures) in
     let hs = quad-starts (c .before .before .before .before .layout .result) b r in
     let hc = quad-count (c .before .before .before .before .layout .result) b r in
@@ -65,7 +66,7 @@ returns-4 c =
     let a = c .before .before .before .before .before .before .before .before .before .before .before .before .before .args in
     let b = now (a .bytes) in
     let o : checkOf (a .n) (a .m) (a .k) (a .s) b ≡ Accepted = sym (c .before .before .before .before .before .before .before .before .check-records .ensures) ∙ passed _ (sym (c .before .before .before .before .before .before .before .is-refused .ensures) ∙ c .before .before .before .before .before .before .if1 .left) in
-    let r = ready (a .n) (a .m) (a .k) (a .s) b (accepted (a .n) (a .m) (a .k) (a .s) b o) (c .before .before .before .before .before .layout .ensures) in
+    let r = laid (a .n) (a .m) (a .k) (a .s) b (accepted (a .n) (a .m) (a .k) (a .s) b o) (c .before .before .before .before .before .layout .ensures) in
     let e = net-is (a .n) (a .m) (a .k) (a .s) b (c .before .before .before .before .before .layout .ensures) in
     let hs = quad-starts (c .before .before .before .before .before .layout .result) b r in
     let hc = quad-count (c .before .before .before .before .before .layout .result) b r in
@@ -76,7 +77,7 @@ fill-p-requires c κs =
     let a = c .before .before .before .before .before .before .before .before .before .before .before .before .before .before .before .before .args in
     let b = now (a .bytes) in
     let o : checkOf (a .n) (a .m) (a .k) (a .s) b ≡ Accepted = sym (c .before .before .before .before .before .before .before .before .before .before .before .check-records .ensures) ∙ passed _ (sym (c .before .before .before .before .before .before .before .before .before .before .is-refused .ensures) ∙ c .before .before .before .before .before .before .before .before .before .if1 .left) in
-    let r = ready (a .n) (a .m) (a .k) (a .s) b (accepted (a .n) (a .m) (a .k) (a .s) b o) (c .before .before .before .before .before .before .before .before .layout .ensures) in
+    let r = laid (a .n) (a .m) (a .k) (a .s) b (accepted (a .n) (a .m) (a .k) (a .s) b o) (c .before .before .before .before .before .before .before .before .layout .ensures) in
     r
 
 returns-5 : tie.Need-returns-5
@@ -84,7 +85,7 @@ returns-5 c =
     let a = c .before .before .before .before .before .before .before .before .before .before .before .before .before .before .before .before .before .before .before .before .before .before .before .args in
     let b = now (a .bytes) in
     let o : checkOf (a .n) (a .m) (a .k) (a .s) b ≡ Accepted = sym (c .before .before .before .before .before .before .before .before .before .before .before .before .before .before .before .before .before .before .check-records .ensures) ∙ passed _ (sym (c .before .before .before .before .before .before .before .before .before .before .before .before .before .before .before .before .before .is-refused .ensures) ∙ c .before .before .before .before .before .before .before .before .before .before .before .before .before .before .before .before .if1 .left) in
-    let r = ready (a .n) (a .m) (a .k) (a .s) b (accepted (a .n) (a .m) (a .k) (a .s) b o) (c .before .before .before .before .before .before .before .before .before .before .before .before .before .before .before .layout .ensures) in
+    let r = laid (a .n) (a .m) (a .k) (a .s) b (accepted (a .n) (a .m) (a .k) (a .s) b o) (c .before .before .before .before .before .before .before .before .before .before .before .before .before .before .before .layout .ensures) in
     let e = net-is (a .n) (a .m) (a .k) (a .s) b (c .before .before .before .before .before .before .before .before .before .before .before .before .before .before .before .layout .ensures) in
     let hs = quad-starts (c .before .before .before .before .before .before .before .before .before .before .before .before .before .before .before .layout .result) b r in
     let hc = quad-count (c .before .before .before .before .before .before .before .before .before .before .before .before .before .before .before .layout .result) b r in

@@ -5,11 +5,12 @@ use native.Mathlib.Omega.{arith}
 use denote.Ref.{now}
 use Rattle.records.specs.Check.{checkOf}
 use Rattle.records.proofs.Laws.{accepted}
+use Rattle.numbering.proofs.Laid.{laid}
 use Rattle.refusals.proofs.Laws.{passed}
 use Rattle.refusals.specs.declared.Checked.the-variants.{Accepted}
 use Rattle.rows.specs.Program.{linear}
 use Rattle.sides.proofs.RightSide.{linear-length}
-use Rattle.program.proofs.Answers.{ready, net-is, floats-refused, floats-short, floats-written, floats-of}
+use Rattle.program.proofs.Answers.{net-is, floats-refused, floats-short, floats-written, floats-of}
 use Rattle.program.proofs.program_q.Statement.{statement}
 use Rattle.program.proofs.program_q.Tie as tie
 
@@ -28,7 +29,7 @@ nvar-requires c κs =
     let a = c .before .before .before .before .before .before .args in
     let b = now (a .bytes) in
     let o : checkOf (a .n) (a .m) (a .k) (a .s) b ≡ Accepted = sym (c .before .before .before .check-records .ensures) ∙ passed _ (sym (c .before .before .is-refused .ensures) ∙ c .before .if1 .left) in
-    let r = ready (a .n) (a .m) (a .k) (a .s) b (accepted (a .n) (a .m) (a .k) (a .s) b o) (c .layout .ensures) in
+    let r = laid (a .n) (a .m) (a .k) (a .s) b (accepted (a .n) (a .m) (a .k) (a .s) b o) (c .layout .ensures) in
     r .range
 
 returns-2 : tie.Need-returns-2
@@ -36,7 +37,7 @@ returns-2 c =
     let a = c .before .before .before .before .before .before .before .before .args in
     let b = now (a .bytes) in
     let o : checkOf (a .n) (a .m) (a .k) (a .s) b ≡ Accepted = sym (c .before .before .before .before .before .check-records .ensures) ∙ passed _ (sym (c .before .before .before .before .is-refused .ensures) ∙ c .before .before .before .if1 .left) in
-    let r = ready (a .n) (a .m) (a .k) (a .s) b (accepted (a .n) (a .m) (a .k) (a .s) b o) (c .before .before .layout .ensures) in
+    let r = laid (a .n) (a .m) (a .k) (a .s) b (accepted (a .n) (a .m) (a .k) (a .s) b o) (c .before .before .layout .ensures) in
     let e = net-is (a .n) (a .m) (a .k) (a .s) b (c .before .before .layout .ensures) in
     let h = linear-length (c .before .before .layout .result) b r in
     floats-of linear e (floats-short o (c .before .nvar .ensures ∙ sym h) (c .if2 .taken))
@@ -46,7 +47,7 @@ fill-q-requires c κs =
     let a = c .before .before .before .before .before .before .before .before .before .args in
     let b = now (a .bytes) in
     let o : checkOf (a .n) (a .m) (a .k) (a .s) b ≡ Accepted = sym (c .before .before .before .before .before .before .check-records .ensures) ∙ passed _ (sym (c .before .before .before .before .before .is-refused .ensures) ∙ c .before .before .before .before .if1 .left) in
-    let r = ready (a .n) (a .m) (a .k) (a .s) b (accepted (a .n) (a .m) (a .k) (a .s) b o) (c .before .before .before .layout .ensures) in
+    let r = laid (a .n) (a .m) (a .k) (a .s) b (accepted (a .n) (a .m) (a .k) (a .s) b o) (c .before .before .before .layout .ensures) in
     (r, omega (arith, c .before .before .nvar .ensures))
 
 returns-3 : tie.Need-returns-3
@@ -54,7 +55,7 @@ returns-3 c =
     let a = c .before .before .before .before .before .before .before .before .before .before .before .before .args in
     let b = now (a .bytes) in
     let o : checkOf (a .n) (a .m) (a .k) (a .s) b ≡ Accepted = sym (c .before .before .before .before .before .before .before .before .before .check-records .ensures) ∙ passed _ (sym (c .before .before .before .before .before .before .before .before .is-refused .ensures) ∙ c .before .before .before .before .before .before .before .if1 .left) in
-    let r = ready (a .n) (a .m) (a .k) (a .s) b (accepted (a .n) (a .m) (a .k) (a .s) b o) (c .before .before .before .before .before .before .layout .ensures) in
+    let r = laid (a .n) (a .m) (a .k) (a .s) b (accepted (a .n) (a .m) (a .k) (a .s) b o) (c .before .before .before .before .before .before .layout .ensures) in
     let e = net-is (a .n) (a .m) (a .k) (a .s) b (c .before .before .before .before .before .before .layout .ensures) in
     let h = linear-length (c .before .before .before .before .before .before .layout .result) b r in
     floats-of linear e (floats-written o (c .before .before .before .before .before .nvar .ensures ∙ sym h) (omega (arith, h, c .before .before .before .before .before .nvar .ensures, c .before .before .before .before .if2 .left)) (c .before .before .fill-q .ensures))
