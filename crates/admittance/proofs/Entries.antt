@@ -6,13 +6,13 @@ use lib.Ieee.{Float}
 use Rattle.records.specs.AcNetwork.{AcNetwork}
 use Rattle.records.specs.Network.{branchOf}
 use Rattle.numbering.specs.Numbering.{nvar, rowNumber, columnNumber}
+use Rattle.numbering.specs.Laid.{netOf}
 use Rattle.numbering.specs.declared.ColumnName.the-variants.{W, Wr, Wi}
 use Rattle.numbering.specs.declared.RowName.the-variants.{OhmPf, OhmQf, OhmPt, OhmQt}
 use Rattle.numbering.specs.declared.SocWrLayout.{SocWrLayout}
 use Rattle.interface.specs.declared.GB.{GB}
 use Rattle.interface.specs.declared.GB.the-variants.{Conductance, Susceptance}
 use Rattle.branch.specs.Series.{seriesOf}
-use Rattle.solution.specs.Laid.{netOf}
 use Rattle.admittance.specs.Admittance.{inTurn, seriesStores}
 use Rattle.admittance.specs.Places.{seriesEntries, landedAll}
 use Rattle.admittance.specs.declared.inner.series.OhmRows.{OhmRows}

@@ -6,14 +6,14 @@ use lib.ListN.{getD}
 use lib.Ieee.{Float, binary64, nan, mul}
 use Rattle.numbering.specs.Numbering.{rowNumber}
 use Rattle.numbering.specs.Layout.{layoutRow, layoutColumn}
+use Rattle.numbering.specs.Laid.{netOf, Laid}
 use Rattle.numbering.specs.declared.SocWrLayout.{SocWrLayout}
 use Rattle.numbering.specs.declared.ColumnName.the-variants.{W}
 use Rattle.numbering.specs.declared.RowName.{RowName}
+use Rattle.numbering.proofs.Laid.{nvar-number}
 use Rattle.kkt.specs.Kkt.{kktRow}
 use Rattle.interface.specs.declared.GB.{GB}
 use Rattle.interface.specs.declared.GB.the-variants.{Conductance, Susceptance}
-use Rattle.solution.specs.Laid.{netOf, Laid}
-use Rattle.solution.proofs.Laid.{nvar-number}
 use Rattle.admittance.specs.Stores.{plus}
 use Rattle.admittance.specs.Admittance.{shuntRow, shuntEntry, shuntStores}
 use Rattle.admittance.specs.Places.{kktIn}

@@ -15,12 +15,13 @@ use Rattle.records.specs.AcNetwork.{AcNetwork}
 use Rattle.records.proofs.Sound.{sound}
 use Rattle.numbering.specs.Blocks.{total}
 use Rattle.numbering.specs.Layout.{layoutColumns}
+use Rattle.numbering.specs.Laid.{netOf, Laid}
 use Rattle.numbering.specs.declared.SocWrLayout.{SocWrLayout}
+use Rattle.numbering.proofs.Laid.{nvar-number}
 use Rattle.rows.specs.Rows.{pf, qf, pt, qt}
 use Rattle.rows.specs.Program.{matrix}
 use Rattle.matrix.specs.Columns.{pgCells, qgCells, wCells, wrCells, wiCells, flowCells}
 use Rattle.matrix.proofs.Same.{matrix-columns}
-use Rattle.cells.specs.Ready.{Ready, netOf}
 use Rattle.cells.specs.Columns.{endsFrom, Columns}
 use Rattle.record_columns.specs.Writers.{costTurn}
 use Rattle.bus_columns.specs.Cells.{cellOf}
@@ -28,7 +29,6 @@ use Rattle.bus_columns.specs.Buses.{busItems}
 use Rattle.assembly.specs.Parts.{generatorColumns, productColumns, flowColumns, branchColumns}
 use Rattle.cells.proofs.Fills.{listed-length}
 use Rattle.cells.proofs.Ends.{ends-length}
-use Rattle.cells.proofs.Sizes.{columns-length}
 use Rattle.dealing.specs.Deal.{sorted}
 use Rattle.dealing.proofs.Dealing.{sorted-length}
 use Rattle.bus_columns.proofs.BusColumns.{bus-sorted, items-keyed}
@@ -52,20 +52,20 @@ module _ (l : SocWrLayout) (bytes : List ℕ) where
   unfolding flowColumns
   flows-length = simp (length-append, listed-length) (omega arith)
 
-  module _ (ready : Ready l bytes) where
+  module _ (laid : Laid l bytes) where
     pub matrix-parts : matrix G ≡ generatorColumns G ++ listed (l .n) (wCells G) ++ branchColumns G
     unfolding generatorColumns branchColumns productColumns flowColumns costTurn
     matrix-parts =
-        matrix-columns G (sound (l .n) (l .m) (l .k) (l .s) bytes (ready .accepted)) (ready .accepted .bus-below)
+        matrix-columns G (sound (l .n) (l .m) (l .k) (l .s) bytes (laid .accepted)) (laid .accepted .bus-below)
         ∙ regroup (listed (l .k) (pgCells G)) (listed (l .k) (qgCells G)) (listed (l .n) (wCells G)) (listed (l .m) (wrCells G)) (listed (l .m) (wiCells G)) (listed (l .m) (flowCells G pf)) (listed (l .m) (flowCells G pt)) (listed (l .m) (flowCells G qf)) (listed (l .m) (flowCells G qt)) (each (l .k) (costTurn G))
 
     pub matrix-starts : length (startsFrom 0 (matrix G)) ≡ total (layoutColumns l) + 1
     unfolding matrix
-    matrix-starts = starts-length 0 _ ∙ ap (λ (n : ℕ). n + 1) (listed-length _ _ ∙ sym (columns-length l bytes ready))
+    matrix-starts = starts-length 0 _ ∙ ap (λ (n : ℕ). n + 1) (listed-length _ _ ∙ sym (nvar-number l bytes laid))
 
     -- the bus columns have as many cells as are dealt
     pub bus-cells : length (joined (listed (l .n) (wCells G))) ≡ length (busItems l bytes)
-    bus-cells = ap length (joined-listed (l .n) (wCells G) ∙ sym (bus-sorted l bytes)) ∙ length-map (sorted (l .n) (busItems l bytes)) cellOf ∙ sorted-length (l .n) (items-keyed l bytes ready)
+    bus-cells = ap length (joined-listed (l .n) (wCells G) ∙ sym (bus-sorted l bytes)) ∙ length-map (sorted (l .n) (busItems l bytes)) cellOf ∙ sorted-length (l .n) (items-keyed l bytes laid)
 
     pub matrix-count : length (joined (matrix G)) ≡ length (joined (generatorColumns G)) + length (busItems l bytes) + length (joined (branchColumns G))
     matrix-count =

@@ -19,10 +19,10 @@ ghost use Rattle.lists.specs.UpTo.{listed, sum};
 ghost use Rattle.lists.specs.Compressed.{cellOut, joined};
 ghost use Rattle.rows.specs.Program.{matrix};
 ghost use Rattle.matrix.specs.Columns.{wCells};
-ghost use Rattle.cells.specs.Ready.{Ready, netOf};
 ghost use Rattle.cells.specs.Columns.{Columns, Whole};
 ghost use Rattle.bus_columns.specs.Buses.{ownItems, endItems};
 ghost use Rattle.assembly.specs.Parts.{generatorColumns, productColumns, flowColumns, branchColumns, mostA};
+ghost use Rattle.numbering.specs.Laid.{netOf, Laid};
 
 // The pg and qg columns.
 fn fill_generators(
@@ -33,7 +33,7 @@ fn fill_generators(
     l: SocWrLayout,
     bytes: &[u8],
 ) -> usize
-    requires { ⌜ Ready l (now bytes) ⌝ }
+    requires { ⌜ Laid l (now bytes) ⌝ }
     requires { ⌜ at ≡ 0 ⌝ }
     ensures { λ x. ⌜ Columns (generatorColumns (netOf l (now (bytes .entry)))) 0 (now (starts .entry)) (cellOut (now (rows .entry)) (now (vals .entry)) at) (now (starts .exit)) (cellOut (now (rows .exit)) (now (vals .exit)) x) ⌝ }
     ensures { λ x. ⌜ x ≤ 6 * l .k + l .s ⌝ }
@@ -51,7 +51,7 @@ fn fill_buses(
     l: SocWrLayout,
     bytes: &[u8],
 ) -> usize
-    requires { ⌜ Ready l (now bytes) ⌝ }
+    requires { ⌜ Laid l (now bytes) ⌝ }
     requires { ⌜ (at < 900000) × (2 * l .k + l .n + 1 ≤ length (now starts)) ⌝ }
     ensures { λ x. ⌜ Columns (listed (l .n) (wCells (netOf l (now (bytes .entry))))) (2 * l .k) (now (starts .entry)) (cellOut (now (rows .entry)) (now (vals .entry)) at) (now (starts .exit)) (cellOut (now (rows .exit)) (now (vals .exit)) x) ⌝ }
     ensures { λ x. ⌜ x ≤ at + 4 * l .n + 8 * l .m ⌝ }
@@ -70,7 +70,7 @@ fn fill_products(
     l: SocWrLayout,
     bytes: &[u8],
 ) -> usize
-    requires { ⌜ Ready l (now bytes) ⌝ }
+    requires { ⌜ Laid l (now bytes) ⌝ }
     requires { ⌜ at < 500000 ⌝ }
     ensures { λ x. ⌜ Columns (productColumns (netOf l (now (bytes .entry)))) (2 * l .k + l .n) (now (starts .entry)) (cellOut (now (rows .entry)) (now (vals .entry)) at) (now (starts .exit)) (cellOut (now (rows .exit)) (now (vals .exit)) x) ⌝ }
     ensures { λ x. ⌜ x ≤ at + 14 * l .m ⌝ }
@@ -88,7 +88,7 @@ fn fill_flows(
     l: SocWrLayout,
     bytes: &[u8],
 ) -> usize
-    requires { ⌜ Ready l (now bytes) ⌝ }
+    requires { ⌜ Laid l (now bytes) ⌝ }
     requires { ⌜ at < 700000 ⌝ }
     ensures { λ x. ⌜ Columns (flowColumns (netOf l (now (bytes .entry)))) (2 * l .k + l .n + 2 * l .m) (now (starts .entry)) (cellOut (now (rows .entry)) (now (vals .entry)) at) (now (starts .exit)) (cellOut (now (rows .exit)) (now (vals .exit)) x) ⌝ }
     ensures { λ x. ⌜ x ≤ at + 12 * l .m ⌝ }
@@ -112,7 +112,7 @@ fn fill_branches(
     l: SocWrLayout,
     bytes: &[u8],
 ) -> usize
-    requires { ⌜ Ready l (now bytes) ⌝ }
+    requires { ⌜ Laid l (now bytes) ⌝ }
     requires { ⌜ at < 300000 ⌝ }
     ensures { λ x. ⌜ Columns (branchColumns (netOf l (now (bytes .entry)))) (2 * l .k + l .n) (now (starts .entry)) (cellOut (now (rows .entry)) (now (vals .entry)) at) (now (starts .exit)) (cellOut (now (rows .exit)) (now (vals .exit)) x) ⌝ }
     ensures { λ x. ⌜ x ≤ at + 26 * l .m + l .s ⌝ }
@@ -124,7 +124,7 @@ fn fill_branches(
 
 // How many cells the buses have in their own rows, and the branches in the columns of their ends.
 fn count_buses(l: SocWrLayout, bytes: &[u8]) -> usize
-    requires { ⌜ Ready l (now bytes) ⌝ }
+    requires { ⌜ Laid l (now bytes) ⌝ }
     ensures { λ x. ⌜ x ≡ sum (l .n) (λ i. length (ownItems l (now (bytes .entry)) i)) ⌝ }
     ensures { λ x. ⌜ x ≤ 4 * l .n ⌝ }
 {
@@ -139,7 +139,7 @@ fn count_buses(l: SocWrLayout, bytes: &[u8]) -> usize
 }
 
 fn count_ends(l: SocWrLayout, bytes: &[u8]) -> usize
-    requires { ⌜ Ready l (now bytes) ⌝ }
+    requires { ⌜ Laid l (now bytes) ⌝ }
     ensures { λ x. ⌜ x ≡ sum (l .m) (λ e. length (endItems l (now (bytes .entry)) e)) ⌝ }
     ensures { λ x. ⌜ x ≤ 8 * l .m ⌝ }
 {
@@ -155,7 +155,7 @@ fn count_ends(l: SocWrLayout, bytes: &[u8]) -> usize
 
 // How many entries A has: the writers run on places that are dropped, and the cells of the buses are counted.
 pub fn count_a(l: SocWrLayout, bytes: &[u8]) -> usize
-    requires { ⌜ Ready l (now bytes) ⌝ }
+    requires { ⌜ Laid l (now bytes) ⌝ }
     ensures { λ x. ⌜ x ≡ length (joined (matrix (netOf l (now (bytes .entry))))) ⌝ }
 {
     let mut s = [0u32; 1];
@@ -174,7 +174,7 @@ pub fn fill_a(
     l: SocWrLayout,
     bytes: &[u8],
 ) -> usize
-    requires { ⌜ Ready l (now bytes) ⌝ }
+    requires { ⌜ Laid l (now bytes) ⌝ }
     requires { ⌜ 2 * l .k + l .n + 1 ≤ length (now starts) ⌝ }
     ensures { λ x. ⌜ Whole (matrix (netOf l (now (bytes .entry)))) (now (starts .entry)) (now (rows .entry)) (now (vals .entry)) (now (starts .exit)) (now (rows .exit)) (now (vals .exit)) x ⌝ }
     ensures { λ x. ⌜ x ≤ mostA l ⌝ }

@@ -10,25 +10,25 @@ use Rattle.lists.specs.Entries.{Entry}
 use Rattle.lists.proofs.Sums.{sum-mono, sum-next}
 use Rattle.numbering.specs.Blocks.{total}
 use Rattle.numbering.specs.Layout.{layoutColumns, layoutColumn}
+use Rattle.numbering.specs.Laid.{netOf, Laid}
 use Rattle.numbering.specs.declared.ColumnName.the-variants.{Pg}
 use Rattle.rows.specs.Ops.{rounded}
 use Rattle.numbering.specs.declared.SocWrLayout.{SocWrLayout}
 use Rattle.numbering.specs.declared.RowName.{RowName}
 use Rattle.rows.specs.Program.{nonzero}
 use Rattle.kkt.specs.Kkt.{kktRow, plainRow}
-use Rattle.lines.specs.Line.{networkIn, Network}
 use Rattle.lines.specs.Ohm.{ohmAt, OhmStands}
 use Rattle.lines.specs.declared.Ohm.{Ohm}
 use Rattle.lines.proofs.Sizes.{nvar-is, small}
 
 -- of an Ohm row
-pub ohm-same : {l : SocWrLayout} {bytes : List ℕ} {v : ℕ} {r : RowName} {o : Ohm} → Network l bytes → v ≡ total (layoutColumns l) → OhmStands (networkIn l bytes) r o
-    → (v + o .row < 2 ^ 32) × (ohmAt (v + o .row) o ≡ plainRow (networkIn l bytes) r)
+pub ohm-same : {l : SocWrLayout} {bytes : List ℕ} {v : ℕ} {r : RowName} {o : Ohm} → Laid l bytes → v ≡ total (layoutColumns l) → OhmStands (netOf l bytes) r o
+    → (v + o .row < 2 ^ 32) × (ohmAt (v + o .row) o ≡ plainRow (netOf l bytes) r)
 ohm-same {l} {bytes} {v} {r} {o} h e s =
-    (omega (arith, small h, nvar-is h e, s .within), ap₂ (λ (a k : ℕ). ohmAt (a + k) o) (nvar-is h e) (s .number) ∙ sym (s .entries (kktRow (networkIn l bytes) r)))
+    (omega (arith, small h, nvar-is h e, s .within), ap₂ (λ (a k : ℕ). ohmAt (a + k) o) (nvar-is h e) (s .number) ∙ sym (s .entries (kktRow (netOf l bytes) r)))
 
-pub segments-le : {l : SocWrLayout} {bytes : List ℕ} → Network l bytes → (g : ℕ) → g ≤ l .k → sum g (networkIn l bytes .segments) ≤ l .s
-segments-le {l} {bytes} h g d = omega (arith, sum-mono g (l .k) (networkIn l bytes .segments) d, h .accepted .counts-add)
+pub segments-le : {l : SocWrLayout} {bytes : List ℕ} → Laid l bytes → (g : ℕ) → g ≤ l .k → sum g (netOf l bytes .segments) ≤ l .s
+segments-le {l} {bytes} h g d = omega (arith, sum-mono g (l .k) (netOf l bytes .segments) d, h .accepted .counts-add)
 
 -- counts over the records, one record more
 pub count-more : {i : ℕ} (n : ℕ) (p : ℕ → Bool) (j : ℕ) → i ≡ count n p → j ≡ bit (p n) → i + j ≡ count (n + 1) p
@@ -44,4 +44,4 @@ none-yet a = refl
 -- P at generator g
 abbrev pub diagonalAt : SocWrLayout → List ℕ → ℕ → List Entry
 diagonalAt l bytes g =
-    nonzero (layoutColumn l (Pg g)) (layoutColumn l (Pg g)) (mul binary64 (rounded .two) (networkIn l bytes .cq g))
+    nonzero (layoutColumn l (Pg g)) (layoutColumn l (Pg g)) (mul binary64 (rounded .two) (netOf l bytes .cq g))

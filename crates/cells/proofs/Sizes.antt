@@ -2,18 +2,12 @@
 use Prim.Native.Nat.{ℕ}
 use mathlib.Core.Path.{_≡_, refl}
 use mathlib.Core.Bool.{Bool, true, false}
-use mathlib.Core.List.{List, [], _∷_}
-use native.Mathlib.Omega.{arith}
+use mathlib.Core.List.{[], _∷_}
 use lib.ListN.{length}
 use lib.Ieee.{Float, ne}
 use Rattle.lists.specs.UpTo.{when, bit}
-use Rattle.numbering.specs.Blocks.{total}
-use Rattle.numbering.specs.Layout.{layoutColumns}
-use Rattle.numbering.specs.Numbering.{nvar}
-use Rattle.numbering.specs.declared.SocWrLayout.{SocWrLayout}
 use Rattle.rows.specs.Rows.{zero64}
 use Rattle.matrix.specs.Columns.{oneCell, nonzeroCell}
-use Rattle.cells.specs.Ready.{Ready, netOf}
 
 when-length : {A : Type 0} (b : Bool) (x : A) → length (when b (x ∷ [])) ≡ bit b
 when-length true x = refl
@@ -22,6 +16,3 @@ when-length false x = refl
 pub nonzero-length : (r : ℕ) (v : Float) → length (nonzeroCell r v) ≡ bit (ne v zero64)
 unfolding nonzeroCell oneCell
 nonzero-length r v = when-length (ne v zero64) _
-
-pub columns-length : (l : SocWrLayout) (bytes : List ℕ) → Ready l bytes → total (layoutColumns l) ≡ nvar (netOf l bytes)
-columns-length l bytes ready = omega (arith, ready .curves-are)

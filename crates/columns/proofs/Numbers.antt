@@ -8,6 +8,7 @@ use Rattle.numbering.specs.Blocks.{before}
 use Rattle.numbering.specs.Numbering.{rowNumber}
 use Rattle.numbering.specs.Layout.{layoutRows, layoutRow}
 use Rattle.numbering.specs.Tally.{tallyOf, pointsOf}
+use Rattle.numbering.specs.Laid.{netOf, Laid}
 use Rattle.numbering.specs.declared.SocWrLayout.{SocWrLayout}
 use Rattle.numbering.specs.declared.Tally.the-variants.{Limited}
 use Rattle.numbering.specs.declared.RowName.the-variants.{Thermal}
@@ -16,7 +17,6 @@ use Rattle.interface.specs.declared.Power.{Power}
 use Rattle.interface.specs.declared.Power.the-variants.{Active, Reactive}
 use Rattle.interface.specs.declared.Bound.{Bound}
 use Rattle.interface.specs.declared.Bound.the-variants.{Min, Max}
-use Rattle.solution.specs.Laid.{netOf, Laid}
 use Rattle.columns.specs.Jacobian.{voltageRow, genRow}
 
 module _ (l : SocWrLayout) (b : List ℕ) where

@@ -6,6 +6,7 @@ use lib.ListN.{getD}
 use lib.Ieee.{Float, binary64, nan, mul}
 use Rattle.numbering.specs.Numbering.{rowNumber}
 use Rattle.numbering.specs.Layout.{layoutRow, layoutColumn}
+use Rattle.numbering.specs.Laid.{netOf, Laid}
 use Rattle.numbering.specs.declared.SocWrLayout.{SocWrLayout}
 use Rattle.numbering.specs.declared.ColumnName.the-variants.{Pg}
 use Rattle.numbering.specs.declared.RowName.{RowName}
@@ -15,7 +16,6 @@ use Rattle.interface.specs.declared.Power.{Power}
 use Rattle.interface.specs.declared.Bound.{Bound}
 use Rattle.interface.specs.declared.CostTerm.{CostTerm}
 use Rattle.interface.specs.declared.Parameter.the-variants.{Demand, Cost, VoltageBound, GenBound}
-use Rattle.solution.specs.Laid.{netOf, Laid}
 use Rattle.elements.specs.Balance.{balanceRow}
 use Rattle.elements.proofs.Balance.{balance-number}
 use Rattle.admittance.specs.Stores.{put}

@@ -13,12 +13,13 @@ use Rattle.records.specs.AcNetwork.{AcNetwork}
 use Rattle.numbering.specs.Numbering.{nvar, ncon, columnNumber}
 use Rattle.numbering.specs.Blocks.{total}
 use Rattle.numbering.specs.Layout.{layoutColumns}
+use Rattle.numbering.specs.Laid.{netOf}
 use Rattle.numbering.specs.declared.SocWrLayout.{SocWrLayout}
 use Rattle.numbering.specs.declared.RowName.{RowName}
 use Rattle.rows.specs.Rows.{Term, terms, zero64}
 use Rattle.rows.specs.Program.{nonzero, slack, sumOf}
 use Rattle.kkt.specs.Kkt.{arrow, kktRow, scaled, coneRow}
-use Rattle.lines.specs.Line.{networkIn, lineAt, lineSum, lineSlack, Within, Stands, coneLine, ConeStands}
+use Rattle.lines.specs.Line.{lineAt, lineSum, lineSlack, Within, Stands, coneLine, ConeStands}
 use Rattle.lines.proofs.Sizes.{nvar-is, small}
 use Rattle.lines.specs.declared.Line.{Line}
 use Rattle.lines.specs.declared.Cone.{Cone}
@@ -126,13 +127,13 @@ pub record ConeReady (v : ℕ) (x z : List Float) (d : Bool) (c : Cone) (n : ℕ
 
 module _ {l : SocWrLayout} {bytes : List ℕ} {x z : List Float} {v : ℕ} (g : Given l bytes x z) (e : v ≡ total (layoutColumns l)) (d : Bool) where
   fits : v + length z < 2 ^ 32
-  fits = omega (arith, small (g .network), nvar-is (g .network) e, g .z-length)
+  fits = omega (arith, small (g .laid), nvar-is (g .laid) e, g .z-length)
 
-  inside : {line : Line} → Within (nvar (networkIn l bytes)) (ncon (networkIn l bytes)) line → Within (length x) (length z) line
+  inside : {line : Line} → Within (nvar (netOf l bytes)) (ncon (netOf l bytes)) line → Within (length x) (length z) line
   inside w = record { row = omega (arith, w .row, g .z-length); first = omega (arith, w .first, g .x-length); second = omega (arith, w .second, g .x-length) }
 
-  pub ready : {r : RowName} {line : Line} → Stands (networkIn l bytes) r line → Ready v x z d line (rowIn (networkIn l bytes) x z d r)
-  ready s = record { within = inside (s .within); small = fits; same = rw (nvar-is (g .network) e) (line-in s x z d) }
+  pub ready : {r : RowName} {line : Line} → Stands (netOf l bytes) r line → Ready v x z d line (rowIn (netOf l bytes) x z d r)
+  ready s = record { within = inside (s .within); small = fits; same = rw (nvar-is (g .laid) e) (line-in s x z d) }
 
-  pub cone-ready : {n : ℕ} {r : ℕ → RowName} {c : Cone} → ConeStands (networkIn l bytes) n r c → ConeReady v x z d c n (coneIn (networkIn l bytes) x z d n r)
-  cone-ready {n} {r} {c} s = record { within = λ j. inside (s .within j); small = fits; same = rw (nvar-is (g .network) e) (cone-in x z n r c s d) }
+  pub cone-ready : {n : ℕ} {r : ℕ → RowName} {c : Cone} → ConeStands (netOf l bytes) n r c → ConeReady v x z d c n (coneIn (netOf l bytes) x z d n r)
+  cone-ready {n} {r} {c} s = record { within = λ j. inside (s .within j); small = fits; same = rw (nvar-is (g .laid) e) (cone-in x z n r c s d) }

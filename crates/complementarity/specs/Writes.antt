@@ -9,21 +9,22 @@ use Rattle.lists.specs.UpTo.{each, when}
 use Rattle.lists.specs.Entries.{Entry, entry}
 use Rattle.records.specs.AcNetwork.{AcNetwork}
 use Rattle.numbering.specs.Numbering.{nvar, ncon, rowNumber}
+use Rattle.numbering.specs.Laid.{netOf, Laid}
 use Rattle.numbering.specs.declared.SocWrLayout.{SocWrLayout}
 use Rattle.numbering.specs.declared.RowName.{RowName}
 use Rattle.rows.specs.Rows.{zero64}
 use Rattle.rows.specs.Program.{nonzero, slack}
 use Rattle.kkt.specs.Kkt.{arrow, plainRow, boundRow, coneBlock}
-use Rattle.lines.specs.Line.{networkIn, Network, lineAt, lineSlack, coneLine}
+use Rattle.lines.specs.Line.{lineAt, lineSlack, coneLine}
 use Rattle.lines.specs.declared.Line.{Line}
 use Rattle.lines.specs.declared.Cone.{Cone}
 use Rattle.complementarity.specs.declared.Quad.{Quad}
 
 -- accepted records with their layout, and an x and a z of their lengths
 pub record Given (l : SocWrLayout) (bytes : List ℕ) (x z : List Float) : Type 0 where
-  pub network : Network l bytes
-  pub x-length : length x ≡ nvar (networkIn l bytes)
-  pub z-length : length z ≡ ncon (networkIn l bytes)
+  pub laid : Laid l bytes
+  pub x-length : length x ≡ nvar (netOf l bytes)
+  pub z-length : length z ≡ ncon (netOf l bytes)
 
 -- ---- by numbers: v is nvar
 -- a row of the nonnegative cone

@@ -1,7 +1,7 @@
 -- How the answer follows from the checks and from what was written. Assumes nothing.
-use Prim.Native.Nat.{ℕ, zero, suc, _+_, _*_, _≤_, _<_, _^_}
-use mathlib.Core.Path.{_≡_, refl, sym, ap, _∙_, subst}
-use mathlib.Core.Bool.{true, false}
+use Prim.Native.Nat.{ℕ, _+_, _≤_, _<_, _^_}
+use mathlib.Core.Path.{_≡_, sym, ap, _∙_}
+use mathlib.Core.Bool.{true}
 use mathlib.Core.List.{List, map}
 use native.Mathlib.Omega.{arith}
 use native.Mathlib.Nat.{zero-add}
@@ -12,46 +12,36 @@ use Rattle.lists.specs.Entries.{Entry, rowOf, colOf, valOf}
 use Rattle.lists.specs.Out.{out, Wrote}
 use Rattle.lists.proofs.Sums.{each-length, sum-ones, sum-le}
 use Rattle.lists.proofs.Written.{pos, rows-front, cols-front, vals-front}
-use Rattle.refusals.specs.Refusals.{_orElse_, isRefused, roomFor, writtenIf, leftIn}
+use Rattle.refusals.specs.Refusals.{_orElse_, isRefused, writtenIf}
 use Rattle.refusals.specs.declared.Checked.{Checked}
 use Rattle.refusals.specs.declared.Checked.the-variants.{Accepted}
 use Rattle.refusals.specs.declared.Written.{Written}
 use Rattle.refusals.specs.declared.Written.the-variants as Written
 use Rattle.refusals.proofs.Laws.{orElse-refused, orElse-accepted, accepted-first, passed, held, has-room, left-written, left-refused, count-written, count-any}
 use Rattle.records.specs.AcNetwork.{AcNetwork}
-use Rattle.records.specs.Network.{networkOf}
-use Rattle.records.specs.Network as Network
 use Rattle.records.proofs.Sound.{sound}
-use Rattle.numbering.specs.Numbering.{nvar, ncon, limits}
-use Rattle.numbering.specs.Blocks.{total}
-use Rattle.numbering.specs.Layout.{layoutOf, layoutColumns, layoutRows}
+use Rattle.numbering.specs.Laid.{netOf, Laid}
 use Rattle.numbering.specs.declared.SocWrLayout.{SocWrLayout}
+use Rattle.numbering.proofs.Laid.{limits-are}
 use Rattle.kkt.specs.Kkt.{kkt}
 use Rattle.kkt.proofs.Demand3.{kkt-places}
 use Rattle.solution.specs.Lengths.{solutionCause}
 use Rattle.solution.proofs.Lengths.{both-long}
-use Rattle.lines.specs.Line.{networkIn, Network}
-use Rattle.lines.proofs.Lines.{in-range}
 use Rattle.rows.specs.Program.{inequalities}
 use Rattle.numbering.specs.declared.RowName.the-variants.{Wub}
 use Rattle.complementarity.specs.Writes.{Given, rowIn}
 use Rattle.entries.specs.Answer.{roomCause, Answered, mostOf}
 
--- accepted counts and records with the layout that is worked out of them
-pub network : {n m k s : ℕ} {bytes : List ℕ} {l : SocWrLayout} → Network.Accepted n m k s bytes → l ≡ layoutOf (networkOf n m k s bytes) → Network l bytes
-network {n} {m} {k} {s} {bytes} a e = subst (λ (x : SocWrLayout). Network x bytes) (sym e) (record { accepted = a; layout = refl })
-
 module _ {l : SocWrLayout} {bytes : List ℕ} where
-  pub given : {x z : List Float} → Network l bytes → solutionCause (networkIn l bytes) (length x) (length z) ≡ Accepted → Given l bytes x z
-  given h e = let p = both-long _ _ _ e in record { network = h; x-length = p .0; z-length = p .1 }
+  pub given : {x z : List Float} → Laid l bytes → solutionCause (netOf l bytes) (length x) (length z) ≡ Accepted → Given l bytes x z
+  given h e = let p = both-long _ _ _ e in record { laid = h; x-length = p .0; z-length = p .1 }
 
   -- the list is not longer than demand 3 says
-  pub short : {x z : List Float} → Given l bytes x z → (length (kkt (networkIn l bytes) x z) ≤ mostOf l) × (mostOf l + l .n < 2 ^ 31)
+  pub short : {x z : List Float} → Given l bytes x z → (length (kkt (netOf l bytes) x z) ≤ mostOf l) × (mostOf l + l .n < 2 ^ 31)
   short {x} {z} g =
-      let h = g .network in
-      let q = in-range h in
-      let t : l .t ≡ limits (networkIn l bytes) = ap (λ (k : SocWrLayout). k .t) (h .layout) in
-      (omega (arith, kkt-places (networkIn l bytes) (sound (l .n) (l .m) (l .k) (l .s) bytes (h .accepted)) x z .bound, t), omega arith)
+      let h = g .laid in
+      let q = h .range in
+      (omega (arith, kkt-places (netOf l bytes) (sound (l .n) (l .m) (l .k) (l .s) bytes (h .accepted)) x z .bound, limits-are l bytes h), omega arith)
 
 -- the rows of the nonnegative cone are at least as many entries as buses
 pub covers : (G : AcNetwork Float) (x z : List Float) → G .n ≤ length (inequalities G (rowIn G x z true))

@@ -13,10 +13,10 @@ ghost use mathlib.Core.Path.{_≡_};
 ghost use lib.ListN.{length};
 ghost use Rattle.records.specs.Network.{networkOf};
 ghost use Rattle.numbering.specs.Layout.{InRange};
+ghost use Rattle.numbering.specs.Laid.{netOf, Laid};
 ghost use Rattle.kkt.specs.Kkt.{kkt};
 ghost use Rattle.refusals.specs.Refusals.{_orElse_};
 ghost use Rattle.solution.specs.Lengths.{solutionCause};
-ghost use Rattle.lines.specs.Line.{networkIn, Network};
 ghost use Rattle.complementarity.specs.Writes.{Given};
 ghost use Rattle.entries.specs.Answer.{roomCause, kktCheck, Answered, mostOf};
 
@@ -47,7 +47,7 @@ fn kkt_counted(
     vals: &mut [f64],
 ) -> Written
     requires { ⌜ Given l (now bytes) (now x) (now z) ⌝ }
-    ensures { λ w. ⌜ Answered (roomCause (length (kkt (networkIn l (now (bytes .entry))) (now (x .entry)) (now (z .entry)))) (now (rows .entry)) (now (cols .entry)) (now (vals .entry))) (kkt (networkIn l (now (bytes .entry))) (now (x .entry)) (now (z .entry))) (now (rows .entry)) (now (cols .entry)) (now (vals .entry)) (now (rows .exit)) (now (cols .exit)) (now (vals .exit)) w ⌝ }
+    ensures { λ w. ⌜ Answered (roomCause (length (kkt (netOf l (now (bytes .entry))) (now (x .entry)) (now (z .entry)))) (now (rows .entry)) (now (cols .entry)) (now (vals .entry))) (kkt (netOf l (now (bytes .entry))) (now (x .entry)) (now (z .entry))) (now (rows .entry)) (now (cols .entry)) (now (vals .entry)) (now (rows .exit)) (now (cols .exit)) (now (vals .exit)) w ⌝ }
 {
     let need = whole::kkt_count(l, bytes, x, z);
     let short = room_cause(need, rows, cols, vals);
@@ -69,7 +69,7 @@ fn kkt_sized(
     vals: &mut [f64],
 ) -> Written
     requires { ⌜ Given l (now bytes) (now x) (now z) ⌝ }
-    ensures { λ w. ⌜ Answered (roomCause (length (kkt (networkIn l (now (bytes .entry))) (now (x .entry)) (now (z .entry)))) (now (rows .entry)) (now (cols .entry)) (now (vals .entry))) (kkt (networkIn l (now (bytes .entry))) (now (x .entry)) (now (z .entry))) (now (rows .entry)) (now (cols .entry)) (now (vals .entry)) (now (rows .exit)) (now (cols .exit)) (now (vals .exit)) w ⌝ }
+    ensures { λ w. ⌜ Answered (roomCause (length (kkt (netOf l (now (bytes .entry))) (now (x .entry)) (now (z .entry)))) (now (rows .entry)) (now (cols .entry)) (now (vals .entry))) (kkt (netOf l (now (bytes .entry))) (now (x .entry)) (now (z .entry))) (now (rows .entry)) (now (cols .entry)) (now (vals .entry)) (now (rows .exit)) (now (cols .exit)) (now (vals .exit)) w ⌝ }
 {
     let room = room_cause(most(l), rows, cols, vals);
     if is_refused(room) {
@@ -88,8 +88,8 @@ fn kkt_checked(
     cols: &mut [u32],
     vals: &mut [f64],
 ) -> Written
-    requires { ⌜ Network l (now bytes) ⌝ }
-    ensures { λ w. ⌜ Answered (solutionCause (networkIn l (now (bytes .entry))) (length (now (x .entry))) (length (now (z .entry))) orElse roomCause (length (kkt (networkIn l (now (bytes .entry))) (now (x .entry)) (now (z .entry)))) (now (rows .entry)) (now (cols .entry)) (now (vals .entry))) (kkt (networkIn l (now (bytes .entry))) (now (x .entry)) (now (z .entry))) (now (rows .entry)) (now (cols .entry)) (now (vals .entry)) (now (rows .exit)) (now (cols .exit)) (now (vals .exit)) w ⌝ }
+    requires { ⌜ Laid l (now bytes) ⌝ }
+    ensures { λ w. ⌜ Answered (solutionCause (netOf l (now (bytes .entry))) (length (now (x .entry))) (length (now (z .entry))) orElse roomCause (length (kkt (netOf l (now (bytes .entry))) (now (x .entry)) (now (z .entry)))) (now (rows .entry)) (now (cols .entry)) (now (vals .entry))) (kkt (netOf l (now (bytes .entry))) (now (x .entry)) (now (z .entry))) (now (rows .entry)) (now (cols .entry)) (now (vals .entry)) (now (rows .exit)) (now (cols .exit)) (now (vals .exit)) w ⌝ }
 {
     let sizes = solution_cause(l, bytes, x.len(), z.len());
     if is_refused(sizes) {

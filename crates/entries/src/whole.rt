@@ -17,10 +17,10 @@ ghost use mathlib.Core.List.{map};
 ghost use Rattle.lists.specs.Entries.{turned};
 ghost use Rattle.rows.specs.Program.{equalities, inequalities, secondOrder, everyRow};
 ghost use Rattle.kkt.specs.Kkt.{plainRow, kkt};
-ghost use Rattle.lines.specs.Line.{networkIn, Network};
 ghost use Rattle.dealing.specs.Fill.{Ahead, Finished};
 ghost use Rattle.complementarity.specs.Writes.{Given, rowIn, coneIn};
 ghost use Rattle.entries.specs.Parts.{firstBounds, stationarity};
+ghost use Rattle.numbering.specs.Laid.{netOf, Laid};
 
 // The rows of the zero cone.
 fn equality_rows(
@@ -31,9 +31,9 @@ fn equality_rows(
     l: SocWrLayout,
     bytes: &[u8],
 ) -> usize
-    requires { ⌜ Network l (now bytes) ⌝ }
-    requires { ⌜ at + length (equalities (networkIn l (now bytes)) (plainRow (networkIn l (now bytes)))) + l .n < 2 ^ 31 ⌝ }
-    ensures { λ next. ⌜ Ahead (l .n) (equalities (networkIn l (now (bytes .entry))) (plainRow (networkIn l (now (bytes .entry))))) (now (rows .entry)) (now (cols .entry)) (now (vals .entry)) at (now (rows .exit)) (now (cols .exit)) (now (vals .exit)) next ⌝ }
+    requires { ⌜ Laid l (now bytes) ⌝ }
+    requires { ⌜ at + length (equalities (netOf l (now bytes)) (plainRow (netOf l (now bytes)))) + l .n < 2 ^ 31 ⌝ }
+    ensures { λ next. ⌜ Ahead (l .n) (equalities (netOf l (now (bytes .entry))) (plainRow (netOf l (now (bytes .entry))))) (now (rows .entry)) (now (cols .entry)) (now (vals .entry)) at (now (rows .exit)) (now (cols .exit)) (now (vals .exit)) next ⌝ }
 {
     let n1 = balance_rows(rows, cols, vals, at, l, bytes, false);
     let n2 = balance_rows(rows, cols, vals, n1, l, bytes, true);
@@ -55,8 +55,8 @@ fn first_bounds(
     d: bool,
 ) -> usize
     requires { ⌜ Given l (now bytes) (now x) (now z) ⌝ }
-    requires { ⌜ at + length (firstBounds (networkIn l (now bytes)) (rowIn (networkIn l (now bytes)) (now x) (now z) d)) < 2 ^ 64 ⌝ }
-    ensures { λ next. ⌜ Wrote (firstBounds (networkIn l (now (bytes .entry))) (rowIn (networkIn l (now (bytes .entry))) (now (x .entry)) (now (z .entry)) d)) (out (now (rows .entry)) (now (cols .entry)) (now (vals .entry)) at) (out (now (rows .exit)) (now (cols .exit)) (now (vals .exit)) next) ⌝ }
+    requires { ⌜ at + length (firstBounds (netOf l (now bytes)) (rowIn (netOf l (now bytes)) (now x) (now z) d)) < 2 ^ 64 ⌝ }
+    ensures { λ next. ⌜ Wrote (firstBounds (netOf l (now (bytes .entry))) (rowIn (netOf l (now (bytes .entry))) (now (x .entry)) (now (z .entry)) d)) (out (now (rows .entry)) (now (cols .entry)) (now (vals .entry)) at) (out (now (rows .exit)) (now (cols .exit)) (now (vals .exit)) next) ⌝ }
 {
     let n1 = bound_rows(rows, cols, vals, at, l, bytes, x, z, d, Bound::Wub);
     let n2 = bound_rows(rows, cols, vals, n1, l, bytes, x, z, d, Bound::Wlb);
@@ -77,8 +77,8 @@ fn inequality_rows(
     d: bool,
 ) -> usize
     requires { ⌜ Given l (now bytes) (now x) (now z) ⌝ }
-    requires { ⌜ at + length (inequalities (networkIn l (now bytes)) (rowIn (networkIn l (now bytes)) (now x) (now z) d)) < 2 ^ 64 ⌝ }
-    ensures { λ next. ⌜ Wrote (inequalities (networkIn l (now (bytes .entry))) (rowIn (networkIn l (now (bytes .entry))) (now (x .entry)) (now (z .entry)) d)) (out (now (rows .entry)) (now (cols .entry)) (now (vals .entry)) at) (out (now (rows .exit)) (now (cols .exit)) (now (vals .exit)) next) ⌝ }
+    requires { ⌜ at + length (inequalities (netOf l (now bytes)) (rowIn (netOf l (now bytes)) (now x) (now z) d)) < 2 ^ 64 ⌝ }
+    ensures { λ next. ⌜ Wrote (inequalities (netOf l (now (bytes .entry))) (rowIn (netOf l (now (bytes .entry))) (now (x .entry)) (now (z .entry)) d)) (out (now (rows .entry)) (now (cols .entry)) (now (vals .entry)) at) (out (now (rows .exit)) (now (cols .exit)) (now (vals .exit)) next) ⌝ }
 {
     let n1 = first_bounds(rows, cols, vals, at, l, bytes, x, z, d);
     let n2 = bound_rows(rows, cols, vals, n1, l, bytes, x, z, d, Bound::Qgub);
@@ -101,8 +101,8 @@ fn cone_rows(
     d: bool,
 ) -> usize
     requires { ⌜ Given l (now bytes) (now x) (now z) ⌝ }
-    requires { ⌜ at + length (secondOrder (networkIn l (now bytes)) (coneIn (networkIn l (now bytes)) (now x) (now z) d)) < 2 ^ 64 ⌝ }
-    ensures { λ next. ⌜ Wrote (secondOrder (networkIn l (now (bytes .entry))) (coneIn (networkIn l (now (bytes .entry))) (now (x .entry)) (now (z .entry)) d)) (out (now (rows .entry)) (now (cols .entry)) (now (vals .entry)) at) (out (now (rows .exit)) (now (cols .exit)) (now (vals .exit)) next) ⌝ }
+    requires { ⌜ at + length (secondOrder (netOf l (now bytes)) (coneIn (netOf l (now bytes)) (now x) (now z) d)) < 2 ^ 64 ⌝ }
+    ensures { λ next. ⌜ Wrote (secondOrder (netOf l (now (bytes .entry))) (coneIn (netOf l (now (bytes .entry))) (now (x .entry)) (now (z .entry)) d)) (out (now (rows .entry)) (now (cols .entry)) (now (vals .entry)) at) (out (now (rows .exit)) (now (cols .exit)) (now (vals .exit)) next) ⌝ }
 {
     let n1 = jabr_rows(rows, cols, vals, at, l, bytes, x, z, d);
     thermal_rows(rows, cols, vals, n1, l, bytes, x, z, d)
@@ -120,8 +120,8 @@ fn program_rows(
     z: &[f64],
 ) -> usize
     requires { ⌜ Given l (now bytes) (now x) (now z) ⌝ }
-    requires { ⌜ at + length (everyRow (networkIn l (now bytes)) (plainRow (networkIn l (now bytes)))) + l .n < 2 ^ 31 ⌝ }
-    ensures { λ next. ⌜ Ahead (l .n) (everyRow (networkIn l (now (bytes .entry))) (plainRow (networkIn l (now (bytes .entry))))) (now (rows .entry)) (now (cols .entry)) (now (vals .entry)) at (now (rows .exit)) (now (cols .exit)) (now (vals .exit)) next ⌝ }
+    requires { ⌜ at + length (everyRow (netOf l (now bytes)) (plainRow (netOf l (now bytes)))) + l .n < 2 ^ 31 ⌝ }
+    ensures { λ next. ⌜ Ahead (l .n) (everyRow (netOf l (now (bytes .entry))) (plainRow (netOf l (now (bytes .entry))))) (now (rows .entry)) (now (cols .entry)) (now (vals .entry)) at (now (rows .exit)) (now (cols .exit)) (now (vals .exit)) next ⌝ }
 {
     let n1 = equality_rows(rows, cols, vals, at, l, bytes);
     let n2 = inequality_rows(rows, cols, vals, n1, l, bytes, x, z, false);
@@ -140,8 +140,8 @@ fn turned_rows(
     z: &[f64],
 ) -> usize
     requires { ⌜ Given l (now bytes) (now x) (now z) ⌝ }
-    requires { ⌜ at + length (map turned (everyRow (networkIn l (now bytes)) (plainRow (networkIn l (now bytes))))) + l .n < 2 ^ 31 ⌝ }
-    ensures { λ next. ⌜ Ahead (l .n) (map turned (everyRow (networkIn l (now (bytes .entry))) (plainRow (networkIn l (now (bytes .entry)))))) (now (rows .entry)) (now (cols .entry)) (now (vals .entry)) at (now (rows .exit)) (now (cols .exit)) (now (vals .exit)) next ⌝ }
+    requires { ⌜ at + length (map turned (everyRow (netOf l (now bytes)) (plainRow (netOf l (now bytes))))) + l .n < 2 ^ 31 ⌝ }
+    ensures { λ next. ⌜ Ahead (l .n) (map turned (everyRow (netOf l (now (bytes .entry))) (plainRow (netOf l (now (bytes .entry)))))) (now (rows .entry)) (now (cols .entry)) (now (vals .entry)) at (now (rows .exit)) (now (cols .exit)) (now (vals .exit)) next ⌝ }
 {
     program_rows(cols, rows, vals, at, l, bytes, x, z)
 }
@@ -158,8 +158,8 @@ fn first_part(
     z: &[f64],
 ) -> usize
     requires { ⌜ Given l (now bytes) (now x) (now z) ⌝ }
-    requires { ⌜ at + length (stationarity (networkIn l (now bytes))) + l .n < 2 ^ 31 ⌝ }
-    ensures { λ next. ⌜ Ahead (l .n) (stationarity (networkIn l (now (bytes .entry)))) (now (rows .entry)) (now (cols .entry)) (now (vals .entry)) at (now (rows .exit)) (now (cols .exit)) (now (vals .exit)) next ⌝ }
+    requires { ⌜ at + length (stationarity (netOf l (now bytes))) + l .n < 2 ^ 31 ⌝ }
+    ensures { λ next. ⌜ Ahead (l .n) (stationarity (netOf l (now (bytes .entry)))) (now (rows .entry)) (now (cols .entry)) (now (vals .entry)) at (now (rows .exit)) (now (cols .exit)) (now (vals .exit)) next ⌝ }
 {
     let n1 = put_quadratic(rows, cols, vals, at, l, bytes);
     let n2 = turned_rows(rows, cols, vals, n1, l, bytes, x, z);
@@ -178,8 +178,8 @@ pub(crate) fn kkt_list(
     z: &[f64],
 ) -> usize
     requires { ⌜ Given l (now bytes) (now x) (now z) ⌝ }
-    requires { ⌜ at + length (kkt (networkIn l (now bytes)) (now x) (now z)) + l .n < 2 ^ 31 ⌝ }
-    ensures { λ next. ⌜ Finished (kkt (networkIn l (now (bytes .entry))) (now (x .entry)) (now (z .entry))) (now (rows .entry)) (now (cols .entry)) (now (vals .entry)) at (now (rows .exit)) (now (cols .exit)) (now (vals .exit)) next ⌝ }
+    requires { ⌜ at + length (kkt (netOf l (now bytes)) (now x) (now z)) + l .n < 2 ^ 31 ⌝ }
+    ensures { λ next. ⌜ Finished (kkt (netOf l (now (bytes .entry))) (now (x .entry)) (now (z .entry))) (now (rows .entry)) (now (cols .entry)) (now (vals .entry)) at (now (rows .exit)) (now (cols .exit)) (now (vals .exit)) next ⌝ }
 {
     let n1 = first_part(rows, cols, vals, at, l, bytes, x, z);
     let n2 = inequality_rows(rows, cols, vals, n1, l, bytes, x, z, true);
@@ -189,7 +189,7 @@ pub(crate) fn kkt_list(
 // How many entries the list has: they are written to places that are dropped.
 pub(crate) fn kkt_count(l: SocWrLayout, bytes: &[u8], x: &[f64], z: &[f64]) -> usize
     requires { ⌜ Given l (now bytes) (now x) (now z) ⌝ }
-    ensures { λ r. ⌜ r ≡ length (kkt (networkIn l (now (bytes .entry))) (now (x .entry)) (now (z .entry))) ⌝ }
+    ensures { λ r. ⌜ r ≡ length (kkt (netOf l (now (bytes .entry))) (now (x .entry)) (now (z .entry))) ⌝ }
 {
     let mut r = [0u32; 1];
     let mut c = [0u32; 1];

@@ -1,50 +1,38 @@
 -- The lines of each kind stand for the rows of the network. Assumes nothing.
 use Prim.Native.Nat.{ℕ, zero, suc, _+_, _*_, _^_, _<_, _≤_}
-use mathlib.Core.Path.{_≡_, refl, sym, ap, _∙_}
+use mathlib.Core.Path.{_≡_, refl, ap, _∙_}
 use mathlib.Core.Bool.{Bool, true, false, _&&_, cond}
 use mathlib.Core.List.{List, [], _∷_, _++_, map}
 use native.Mathlib.Omega.{arith}
 use lib.Dec.{ltb}
-use lib.Ieee.{Float, binary64, ofBits, neg, ne, mul}
+use lib.Ieee.{Float, binary64, neg, ne, mul}
 use borrow.Author.Tests.{lt-ltb, le-ltb}
 use Rattle.lists.specs.UpTo.{when, sum, bit, count}
-use Rattle.lists.specs.Entries.{Entry, entry}
+use Rattle.lists.specs.Entries.{entry}
 use Rattle.lists.proofs.Sums.{sum-mono, sum-next, count-le}
 use Rattle.records.specs.AcNetwork.{AcNetwork}
-use Rattle.records.specs.Fields.{voltageBoundOf, vmMinOf, vmMaxOf, capabilityOf, pminOf, pmaxOf, qminOf, qmaxOf, angledOf, tanAngminOf, tanAngmaxOf, slopeOf, interceptOf, fromOf, toOf, rateAOf}
-use Rattle.records.specs.Network.{segmentRecord}
+use Rattle.records.specs.Fields.{voltageBoundOf, vmMinOf, vmMaxOf, capabilityOf, pminOf, pmaxOf, qminOf, qmaxOf, angledOf, tanAngminOf, tanAngmaxOf, rateAOf}
 use Rattle.numbering.specs.Numbering.{nvar, ncon, columnNumber, rowNumber}
-use Rattle.numbering.specs.Layout.{layoutOf, InRange, layoutColumns, layoutRows, layoutColumn, layoutRow}
+use Rattle.numbering.specs.Layout.{layoutColumns, layoutRows, layoutColumn, layoutRow}
 use Rattle.numbering.specs.Blocks.{before}
+use Rattle.numbering.specs.Laid.{netOf, Laid}
 use Rattle.numbering.specs.declared.SocWrLayout.{SocWrLayout}
 use Rattle.numbering.specs.declared.ColumnName.{ColumnName}
 use Rattle.numbering.specs.declared.ColumnName.the-variants.{Pg, Qg, W, Wr, Wi, Pf, Pt, Qf, Qt, CostOf}
 use Rattle.numbering.specs.declared.RowName.{RowName}
-use Rattle.numbering.specs.declared.RowName.the-variants.{Pbal, Qbal, OhmPf, OhmQf, OhmPt, OhmQt, Wub, Wlb, Pgub, Pglb, Qgub, Qglb, Angub, Anglb, Segment, Jabr, Thermal}
+use Rattle.numbering.specs.declared.RowName.the-variants.{Wub, Wlb, Pgub, Pglb, Qgub, Qglb, Angub, Anglb, Segment, Jabr, Thermal}
 use Rattle.rows.specs.Ops.{rounded}
-use Rattle.rows.specs.Rows.{Term, term, terms, b, zero64, constant64, Constant, one, minusOne, half, minusHalf, Cell, written, kept}
+use Rattle.rows.specs.Rows.{term, terms, b, zero64, constant64, Constant, one, minusOne, half, minusHalf, Cell, written, kept}
 use Rattle.rows.specs.Program.{thermalFrom, thermalTo}
 use Rattle.rows.proofs.Shape.{endTerms, jabr-first, jabr-last}
 use Rattle.records.proofs.Sound.{sound}
-use Rattle.lines.specs.Line.{networkIn, Network, lineAt, Within, Stands, spot, line, single, ends, coneLine, ConeStands, thermal}
+use Rattle.lines.specs.Line.{lineAt, Within, Stands, spot, line, single, ends, coneLine, ConeStands, thermal}
 use Rattle.lines.specs.declared.Cone.{Cone}
 use Rattle.lines.specs.declared.Line.{Line}
 
-pub in-range : {l : SocWrLayout} {bytes : List ℕ} → Network l bytes → InRange l
-in-range {l} {bytes} h =
-    let G = networkIn l bytes in
-    record {
-      n-range = h .accepted .few-buses;
-      m-range = h .accepted .few-branches;
-      k-range = h .accepted .few-generators;
-      s-range = h .accepted .few-segments;
-      t-range = omega (arith, ap (λ (x : SocWrLayout). x .t) (h .layout), count-le (l .m) (G .limited));
-      c-range = omega (arith, ap (λ (x : SocWrLayout). x .«cost_columns») (h .layout), count-le (l .k) (G .piecewise));
-    }
-
-module _ (l : SocWrLayout) (bytes : List ℕ) (h : Network l bytes) where
+module _ (l : SocWrLayout) (bytes : List ℕ) (h : Laid l bytes) where
   abbrev G : AcNetwork Float
-  G = networkIn l bytes
+  G = netOf l bytes
 
   -- a row of one term, which it has where the test holds
   one-term : (x : RowName) (c : ColumnName) (k : Constant) (on : Bool) (v : Float)
@@ -152,12 +140,12 @@ module _ (l : SocWrLayout) (bytes : List ℕ) (h : Network l bytes) where
   cost-column g curves base hb hc = omega arith
 
   pub jabr-row : (e row : ℕ) → e < l .m → row ≡ layoutRow l (Jabr e 0) → (row ≡ rowNumber G (Jabr e 0)) × (row + 3 < 2 ^ 32)
-  jabr-row e row d hr = let q = in-range h in (omega (arith, h .accepted .counts-add), omega arith)
+  jabr-row e row d hr = let q = h .range in (omega (arith, h .accepted .counts-add), omega arith)
 
   pub thermal-row : (e limits base : ℕ) → e < l .m → base ≡ before (layoutRows l) 16 → limits ≡ count e (G .limited)
       → (limits ≤ 8192) × (base + 6 * limits + 5 < 2 ^ 32) × (base + 6 * limits ≡ rowNumber G (Thermal e 0))
   thermal-row e limits base d hb hl =
-      let q = in-range h in
+      let q = h .range in
       let w : limits ≤ l .m = omega (arith, count-le e (G .limited)) in
       (omega arith, omega arith, omega (arith, h .accepted .counts-add))
 

@@ -11,13 +11,13 @@ use Rattle.records.specs.AcNetwork.{AcNetwork}
 use Rattle.records.specs.Network.{branchOf}
 use Rattle.numbering.specs.Numbering.{columnNumber}
 use Rattle.numbering.specs.Layout.{layoutColumn, layoutRow}
+use Rattle.numbering.specs.Laid.{netOf, Laid}
 use Rattle.numbering.specs.declared.SocWrLayout.{SocWrLayout}
 use Rattle.numbering.specs.declared.ColumnName.{ColumnName}
 use Rattle.numbering.specs.declared.ColumnName.the-variants.{W, Wr, Wi, Pf, Pt, Qf, Qt}
 use Rattle.numbering.specs.declared.RowName.the-variants.{OhmPf, OhmQf, OhmPt, OhmQt}
 use Rattle.rows.specs.Rows.{terms, term, kept, zero64, constant64, one}
 use Rattle.rows.specs.Program.{inRow, nonzero}
-use Rattle.lines.specs.Line.{networkIn, Network}
 use Rattle.lines.specs.Ohm.{ohmOf, ohmAt, OhmStands}
 
 module _ (G : AcNetwork Float) (r : ℕ) where
@@ -34,9 +34,9 @@ module _ (G : AcNetwork Float) (r : ℕ) where
       ≡ nonzero r (columnNumber G a) x ++ nonzero r (columnNumber G b) y ++ nonzero r (columnNumber G c) z ++ (entry r (columnNumber G d) (constant64 one) ∷ [])
   in-four a b c d x y z = simp (map-append, in-kept a x, in-kept b y, in-kept c z, append-assoc)
 
-module _ (l : SocWrLayout) (bytes : List ℕ) (h : Network l bytes) where
+module _ (l : SocWrLayout) (bytes : List ℕ) (h : Laid l bytes) where
   abbrev G : AcNetwork Float
-  G = networkIn l bytes
+  G = netOf l bytes
 
   pub pf-stands : (e : ℕ) → e < l .m → OhmStands G (OhmPf e)
       (ohmOf l e (G .from e) (layoutRow l (OhmPf e)) (layoutColumn l (Pf e))

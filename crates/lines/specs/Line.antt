@@ -9,9 +9,8 @@ use lib.Ieee.{Float, binary64, nan, neg, ne, add, sub, mul}
 use Rattle.lists.specs.UpTo.{when}
 use Rattle.lists.specs.Entries.{Entry, entry}
 use Rattle.records.specs.AcNetwork.{AcNetwork}
-use Rattle.records.specs.Network.{networkOf, Accepted}
 use Rattle.numbering.specs.Numbering.{nvar, ncon, columnNumber, rowNumber}
-use Rattle.numbering.specs.Layout.{layoutOf, layoutColumn}
+use Rattle.numbering.specs.Layout.{layoutColumn}
 use Rattle.numbering.specs.declared.SocWrLayout.{SocWrLayout}
 use Rattle.numbering.specs.declared.ColumnName.the-variants.{W}
 use Rattle.numbering.specs.declared.RowName.{RowName}
@@ -19,15 +18,6 @@ use Rattle.rows.specs.Rows.{terms, b, zero64, constant64, minusHalf, minusOne}
 use Rattle.lines.specs.declared.Spot.{Spot}
 use Rattle.lines.specs.declared.Line.{Line}
 use Rattle.lines.specs.declared.Cone.{Cone}
-
--- the network that a layout's counts and records stand for
-abbrev pub networkIn : SocWrLayout → List ℕ → AcNetwork Float
-networkIn l bytes = networkOf (l .n) (l .m) (l .k) (l .s) bytes
-
--- accepted records with their layout
-pub record Network (l : SocWrLayout) (bytes : List ℕ) : Type 0 where
-  pub accepted : Accepted (l .n) (l .m) (l .k) (l .s) bytes
-  pub layout : l ≡ layoutOf (networkIn l bytes)
 
 -- a term in row r with its coefficient put through f, where it is on
 abbrev pub spotAt : ℕ → (Float → Float) → Spot → List Entry

@@ -1,5 +1,6 @@
 pub mod Tallies
 pub mod Layouts
+pub mod Laid
 pub mod Points
 pub mod Names
 pub mod Entered

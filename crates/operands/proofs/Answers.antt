@@ -16,14 +16,12 @@ use Rattle.refusals.specs.declared.Checked.the-variants.{Accepted, Refused}
 use Rattle.refusals.specs.declared.Refusal.the-variants.{NotInSocWr}
 use Rattle.refusals.proofs.Laws.{orElse-refused, orElse-accepted, test-held, has-room}
 use Rattle.records.specs.AcNetwork.{AcNetwork}
-use Rattle.numbering.specs.declared.SocWrLayout.{SocWrLayout}
 use Rattle.interface.specs.declared.Power.the-variants.{Active, Reactive}
 use Rattle.interface.specs.declared.End.the-variants.{From, To}
 use Rattle.interface.specs.declared.VoltageKind.{VoltageKind}
 use Rattle.interface.specs.declared.VoltageKind.the-variants.{Magnitude, Angle, Squared, ProductReal, ProductImag}
 use Rattle.interface.specs.declared.Operand.{Operand}
 use Rattle.interface.specs.declared.Operand.the-variants.{Price, Dispatch, Flow, Voltage}
-use Rattle.solution.specs.Laid.{netOf, Laid}
 use Rattle.elements.specs.Lengths.{hasOperand, operandLen}
 use Rattle.operands.specs.Selector.{selectorRow, selectorRows, selectorElements, roomCause, operandCause, selectedIf}
 use Rattle.operands.specs.declared.Selected.{Selected}

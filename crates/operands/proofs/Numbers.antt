@@ -5,7 +5,9 @@ use mathlib.Core.List.{List}
 use native.Mathlib.Omega.{arith}
 use Rattle.numbering.specs.Numbering.{columnNumber}
 use Rattle.numbering.specs.Layout.{layoutColumn}
+use Rattle.numbering.specs.Laid.{netOf, Laid}
 use Rattle.numbering.specs.declared.SocWrLayout.{SocWrLayout}
+use Rattle.numbering.proofs.Laid.{nvar-number}
 use Rattle.interface.specs.declared.Power.{Power}
 use Rattle.interface.specs.declared.Power.the-variants.{Active, Reactive}
 use Rattle.interface.specs.declared.End.{End}
@@ -13,8 +15,6 @@ use Rattle.interface.specs.declared.End.the-variants.{From, To}
 use Rattle.interface.specs.declared.VoltageKind.the-variants.{Magnitude, Angle, Squared, ProductReal, ProductImag}
 use Rattle.interface.specs.declared.Operand.{Operand}
 use Rattle.interface.specs.declared.Operand.the-variants.{Price, Dispatch, Flow, Voltage}
-use Rattle.solution.specs.Laid.{netOf, Laid}
-use Rattle.solution.proofs.Laid.{nvar-number}
 use Rattle.elements.specs.Lengths.{operandLen}
 use Rattle.operands.specs.Selector.{dispatchColumn, flowOf, selectorRow}
 

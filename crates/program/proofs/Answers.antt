@@ -1,6 +1,6 @@
 -- What the entries answer. Assumes nothing.
 use Prim.Native.Nat.{ℕ, _≤_, _<_}
-use mathlib.Core.Path.{_≡_, refl, sym, ap, subst, _∙_}
+use mathlib.Core.Path.{_≡_, sym, ap, _∙_}
 use mathlib.Core.Bool.{true}
 use mathlib.Core.List.{List}
 use native.Mathlib.Omega.{arith}
@@ -20,27 +20,16 @@ use Rattle.records.specs.Check.{checkOf}
 use Rattle.records.proofs.Laws.{accepted}
 use Rattle.refusals.proofs.Laws.{orElse-refused, accepted-first, left-written, left-alone, left-refused, count-written, count-refused, count-any, held, failed}
 use Rattle.records.specs.Network.{networkOf}
-use Rattle.records.specs.Network as Network
 use Rattle.records.specs.AcNetwork.{AcNetwork}
-use Rattle.numbering.specs.Layout.{layoutOf}
 use Rattle.numbering.specs.Lookups.{LaidOut}
-use Rattle.numbering.proofs.Layouts.{accepted-range}
+use Rattle.numbering.specs.Laid.{netOf, Laid}
+use Rattle.numbering.proofs.Laid.{laid}
 use Rattle.numbering.proofs.OnePass.{pass-layout}
 use Rattle.numbering.specs.declared.SocWrLayout.{SocWrLayout}
 use Rattle.numbering.specs.declared.CheckedLayout.{CheckedLayout}
-use Rattle.cells.specs.Ready.{Ready, netOf}
 use Rattle.program.specs.Answered.{floatsCheck, FloatsWritten, columnsCheck, ColumnsWritten}
 use Rattle.cells.specs.Columns.{Whole}
 use Rattle.cells.proofs.Ends.{whole-count, whole-starts, whole-rows, whole-vals}
-
--- ---- accepted records
-
-module _ (n m k s : ℕ) (b : List ℕ) {l : SocWrLayout} where
-  ready : Network.Accepted n m k s b → l ≡ layoutOf (networkOf n m k s b) → Ready l b
-  ready a e = subst (λ (x : SocWrLayout). Ready x b) (sym e) (record { accepted = a; range = accepted-range n m k s b a; limits-are = refl; curves-are = refl })
-
-  net-is : l ≡ layoutOf (networkOf n m k s b) → netOf l b ≡ networkOf n m k s b
-  net-is e = ap (λ (x : SocWrLayout). netOf x b) e
 
 -- ---- rooms
 
@@ -120,11 +109,11 @@ module _ {check : Checked} {cs : List (List Cell)} {ss₀ rs₀ : List ℕ} {vs�
 -- ---- of accepted records what their layout gives
 
 module _ {n m k s : ℕ} {b : List ℕ} {e : ℕ} {c : CheckedLayout} (p : LaidOut n m k s b e c) (h : checkOf n m k s b ≡ Accepted) where
-  pub pass-ready : Ready (c .layout) b
-  pass-ready = ready n m k s b (accepted n m k s b h) (pass-layout p h)
+  pub pass-laid : Laid (c .layout) b
+  pass-laid = laid n m k s b (accepted n m k s b h) (pass-layout p h)
 
   same-network : netOf (c .layout) b ≡ networkOf n m k s b
-  same-network = net-is n m k s b (pass-layout p h)
+  same-network = ap (λ (l : SocWrLayout). netOf l b) (pass-layout p h)
 
   pub pass-floats : (f : AcNetwork Float → List Float) {ys₀ ys : List Float} {r : Written} → FloatsWritten Accepted (f (netOf (c .layout) b)) ys₀ ys r
       → FloatsWritten (checkOf n m k s b) (f (networkOf n m k s b)) ys₀ ys r

@@ -10,14 +10,14 @@ ghost use lib.ListN.{length};
 ghost use Rattle.refusals.specs.declared.Checked.the-variants.{Accepted};
 ghost use Rattle.numbering.specs.Blocks.{total};
 ghost use Rattle.numbering.specs.Layout.{layoutColumns, InRange};
+ghost use Rattle.numbering.specs.Laid.{netOf, Laid};
 ghost use Rattle.rows.specs.Program.{linear, matrix};
 ghost use Rattle.matrix.specs.Lists.{rightSide, quadraticMatrix};
-ghost use Rattle.cells.specs.Ready.{Ready, netOf};
 ghost use Rattle.assembly.specs.Parts.{mostA};
 ghost use Rattle.program.specs.Answered.{FloatsWritten, ColumnsWritten};
 
 pub(crate) fn put_b(b: &mut [f64], l: SocWrLayout, bytes: &[u8]) -> Written
-    requires { ⌜ Ready l (now bytes) ⌝ }
+    requires { ⌜ Laid l (now bytes) ⌝ }
     ensures { λ r. ⌜ FloatsWritten Accepted (rightSide (netOf l (now (bytes .entry)))) (now (b .entry)) (now (b .exit)) r ⌝ }
 {
     let need = numbering::inner::ncon(l) as usize;
@@ -29,7 +29,7 @@ pub(crate) fn put_b(b: &mut [f64], l: SocWrLayout, bytes: &[u8]) -> Written
 }
 
 pub(crate) fn put_q(q: &mut [f64], l: SocWrLayout, bytes: &[u8]) -> Written
-    requires { ⌜ Ready l (now bytes) ⌝ }
+    requires { ⌜ Laid l (now bytes) ⌝ }
     ensures { λ r. ⌜ FloatsWritten Accepted (linear (netOf l (now (bytes .entry)))) (now (q .entry)) (now (q .exit)) r ⌝ }
 {
     let need = numbering::inner::nvar(l) as usize;
@@ -47,7 +47,7 @@ pub(crate) fn put_p(
     l: SocWrLayout,
     bytes: &[u8],
 ) -> Written
-    requires { ⌜ Ready l (now bytes) ⌝ }
+    requires { ⌜ Laid l (now bytes) ⌝ }
     ensures { λ r. ⌜ ColumnsWritten Accepted (quadraticMatrix (netOf l (now (bytes .entry)))) (now (starts .entry)) (now (rows .entry)) (now (values .entry)) (now (starts .exit)) (now (rows .exit)) (now (values .exit)) r ⌝ }
 {
     let need = numbering::inner::nvar(l) as usize + 1;
@@ -79,7 +79,7 @@ fn put_counted(
     l: SocWrLayout,
     bytes: &[u8],
 ) -> Written
-    requires { ⌜ Ready l (now bytes) ⌝ }
+    requires { ⌜ Laid l (now bytes) ⌝ }
     requires { ⌜ total (layoutColumns l) + 1 ≤ length (now starts) ⌝ }
     ensures { λ r. ⌜ ColumnsWritten Accepted (matrix (netOf l (now (bytes .entry)))) (now (starts .entry)) (now (rows .entry)) (now (values .entry)) (now (starts .exit)) (now (rows .exit)) (now (values .exit)) r ⌝ }
 {
@@ -102,7 +102,7 @@ fn put_sized(
     l: SocWrLayout,
     bytes: &[u8],
 ) -> Written
-    requires { ⌜ Ready l (now bytes) ⌝ }
+    requires { ⌜ Laid l (now bytes) ⌝ }
     requires { ⌜ total (layoutColumns l) + 1 ≤ length (now starts) ⌝ }
     ensures { λ r. ⌜ ColumnsWritten Accepted (matrix (netOf l (now (bytes .entry)))) (now (starts .entry)) (now (rows .entry)) (now (values .entry)) (now (starts .exit)) (now (rows .exit)) (now (values .exit)) r ⌝ }
 {
@@ -124,7 +124,7 @@ pub(crate) fn put_a(
     l: SocWrLayout,
     bytes: &[u8],
 ) -> Written
-    requires { ⌜ Ready l (now bytes) ⌝ }
+    requires { ⌜ Laid l (now bytes) ⌝ }
     ensures { λ r. ⌜ ColumnsWritten Accepted (matrix (netOf l (now (bytes .entry)))) (now (starts .entry)) (now (rows .entry)) (now (values .entry)) (now (starts .exit)) (now (rows .exit)) (now (values .exit)) r ⌝ }
 {
     let need = numbering::inner::nvar(l) as usize + 1;

@@ -16,13 +16,13 @@ use Rattle.records.specs.Network.{segmentRecord}
 use Rattle.numbering.specs.Blocks.{before}
 use Rattle.numbering.specs.Layout.{layoutRows}
 use Rattle.numbering.specs.Numbering.{rowNumber}
+use Rattle.numbering.specs.Laid.{netOf, Laid}
 use Rattle.numbering.specs.declared.SocWrLayout.{SocWrLayout}
 use Rattle.numbering.specs.declared.RowName.the-variants.{Segment, Thermal}
 use Rattle.rows.specs.Rows.{wr, wi, minusOne, constant64}
 use Rattle.matrix.specs.Columns.{ohmValue, nonzeroCell, oneCell, slopeCell, costCell, costCells, ohmCells}
 use Rattle.branch.specs.declared.Series.{Series}
 use Rattle.coefficients.specs.declared.Products.{Products}
-use Rattle.cells.specs.Ready.{Ready, netOf}
 use Rattle.cells.specs.Columns.{Columns}
 use Rattle.cells.proofs.Ends.{columns-turn}
 use Rattle.branch.specs.Series.{seriesOf}
@@ -76,13 +76,13 @@ module _ (l : SocWrLayout) (bytes : List ℕ) where
   unfolding products ohmCells ohmValue
   wi-are e p q = rw (p, q)
 
-  module _ (ready : Ready l bytes) where
+  module _ (laid : Laid l bytes) where
     -- the segments up to a generator's are among all
     pub segments-below : (g : ℕ) → g ≤ l .k → sum g (G .segments) ≤ l .s
-    segments-below g h = omega (arith, sum-mono g (l .k) (G .segments) h, ready .accepted .counts-add)
+    segments-below g h = omega (arith, sum-mono g (l .k) (G .segments) h, laid .accepted .counts-add)
 
     pub segments-next : (g : ℕ) → g < l .k → sum g (G .segments) + G .segments g ≤ l .s
     segments-next g h = omega (arith, segments-below (g + 1) (omega arith), sum-next g (G .segments))
 
     pub thermal-row : (e q : ℕ) → before (layoutRows l) 16 + 6 * count e (G .limited) + q ≡ rowNumber G (Thermal e q)
-    thermal-row e q = omega (arith, ready .accepted .counts-add)
+    thermal-row e q = omega (arith, laid .accepted .counts-add)

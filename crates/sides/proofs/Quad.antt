@@ -16,17 +16,18 @@ use Rattle.lists.proofs.Compressed.{joined-listed, joined-append, starts-length
 use Rattle.numbering.specs.Blocks.{total}
 use Rattle.numbering.specs.Layout.{layoutColumns}
 use Rattle.numbering.specs.Numbering.{nvar, columnNumber}
+use Rattle.numbering.specs.Laid.{netOf, Laid}
 use Rattle.numbering.specs.declared.SocWrLayout.{SocWrLayout}
 use Rattle.numbering.specs.declared.ColumnName.the-variants.{Pg}
+use Rattle.numbering.proofs.Laid.{nvar-number}
 use Rattle.rows.specs.Rows.{zero64}
 use Rattle.rows.specs.Program.{quadratic}
 use Rattle.matrix.specs.Lists.{quadraticMatrix}
 use Rattle.matrix.specs.Columns.{oneCell, nonzeroCell}
 use Rattle.matrix.proofs.Same.{select-each, select-when}
-use Rattle.cells.specs.Ready.{Ready, netOf}
 use Rattle.sides.specs.Quadratic.{quadValue, quadCells, quadCount}
 use Rattle.cells.proofs.Fills.{listed-length}
-use Rattle.cells.proofs.Sizes.{nonzero-length, columns-length}
+use Rattle.cells.proofs.Sizes.{nonzero-length}
 
 select-one : (c r : ℕ) (v : Float) → select c (entry r r v ∷ []) ≡ when (eqb r c) (oneCell r v)
 unfolding select oneCell
@@ -50,11 +51,11 @@ module _ (l : SocWrLayout) (bytes : List ℕ) where
   past-pg : (c : ℕ) → l .k ≤ c → select c (quadratic (netOf l bytes)) ≡ []
   past-pg c h = at-number c ∙ each-none _ (l .k) (λ g m. rw (ne-eqb g c (λ e. omega arith)) (when-nil (ne (quadValue l bytes g) zero64)))
 
-  module _ (ready : Ready l bytes) where
+  module _ (laid : Laid l bytes) where
     pub quad-parts : quadraticMatrix (netOf l bytes) ≡ listed (l .k) (quadCells l bytes) ++ listed (l .k + l .n + 6 * l .m + l .«cost_columns») (λ c. [])
     unfolding quadraticMatrix
     quad-parts =
-        let e : nvar (netOf l bytes) ≡ l .k + (l .k + l .n + 6 * l .m + l .«cost_columns») = omega (arith, columns-length l bytes ready) in
+        let e : nvar (netOf l bytes) ≡ l .k + (l .k + l .n + 6 * l .m + l .«cost_columns») = omega (arith, nvar-number l bytes laid) in
         ap (λ (n : ℕ). listed n (λ c. select c (quadratic (netOf l bytes)))) e
         ∙ each-split (λ c. select c (quadratic (netOf l bytes)) ∷ []) (l .k) (l .k + l .n + 6 * l .m + l .«cost_columns»)
         ∙ rw (
@@ -71,4 +72,4 @@ module _ (l : SocWrLayout) (bytes : List ℕ) where
 
     pub quad-starts : length (startsFrom 0 (quadraticMatrix (netOf l bytes))) ≡ total (layoutColumns l) + 1
     unfolding quadraticMatrix
-    quad-starts = starts-length 0 _ ∙ ap (λ (n : ℕ). n + 1) (listed-length _ _ ∙ sym (columns-length l bytes ready))
+    quad-starts = starts-length 0 _ ∙ ap (λ (n : ℕ). n + 1) (listed-length _ _ ∙ sym (nvar-number l bytes laid))

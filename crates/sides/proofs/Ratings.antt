@@ -10,7 +10,8 @@ use Rattle.lists.specs.UpTo.{each, when, bit}
 use Rattle.lists.proofs.Each.{each-next}
 use Rattle.lists.proofs.Sums.{each-length, sum-ext, sum-mul}
 use Rattle.numbering.specs.declared.SocWrLayout.{SocWrLayout}
-use Rattle.cells.specs.Ready.{Ready, netOf}
+use Rattle.numbering.specs.Laid.{netOf, Laid}
+use Rattle.numbering.proofs.Laid.{limits-are}
 use Rattle.sides.specs.Sides.{ratingSides, ratingsAt}
 
 six : (v : Float) → length (ratingSides v) ≡ 6
@@ -26,12 +27,12 @@ module _ (l : SocWrLayout) (bytes : List ℕ) where
       go true v = six v
       go false v = refl
 
-  pub ratings-length : Ready l bytes → length (each (l .m) (ratingsAt l bytes)) ≡ 6 * l .t
+  pub ratings-length : Laid l bytes → length (each (l .m) (ratingsAt l bytes)) ≡ 6 * l .t
   ratings-length r =
       each-length (l .m) (ratingsAt l bytes)
       ∙ sum-ext (l .m) _ _ (λ e h. rating-length e)
       ∙ sum-mul (l .m) 6 (λ e. bit (netOf l bytes .limited e))
-      ∙ rw (r .limits-are)
+      ∙ rw (limits-are l bytes r)
 
-  pub ratings-room : Ready l bytes → (e : ℕ) → e < l .m → length (each e (ratingsAt l bytes)) + length (ratingsAt l bytes e) ≤ 6 * l .t
+  pub ratings-room : Laid l bytes → (e : ℕ) → e < l .m → length (each e (ratingsAt l bytes)) + length (ratingsAt l bytes e) ≤ 6 * l .t
   ratings-room r e h = omega (arith, each-next (ratingsAt l bytes) e (l .m) h, ratings-length r)

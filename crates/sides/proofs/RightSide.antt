@@ -13,17 +13,16 @@ use Rattle.records.specs.Fields.{interceptOf}
 use Rattle.records.specs.Network.{segmentRecord}
 use Rattle.numbering.specs.Blocks.{total}
 use Rattle.numbering.specs.Layout.{layoutRows, layoutColumns}
-use Rattle.numbering.specs.Numbering.{ncon}
+use Rattle.numbering.specs.Laid.{netOf, Laid}
 use Rattle.numbering.specs.declared.SocWrLayout.{SocWrLayout}
 use Rattle.numbering.specs.declared.RowName.the-variants.{Segment}
+use Rattle.numbering.proofs.Laid.{curves-are, nvar-number, ncon-number}
 use Rattle.rows.specs.Ops.{rounded}
 use Rattle.rows.specs.Rows.{b, zero64}
 use Rattle.rows.specs.Program.{linear}
 use Rattle.matrix.specs.Lists.{rightSide}
 use Rattle.matrix.proofs.EveryPoint.{right-side, linear-side}
 use Rattle.cells.proofs.Fills.{listed-length}
-use Rattle.cells.proofs.Sizes.{columns-length}
-use Rattle.cells.specs.Ready.{Ready, netOf}
 use Rattle.sides.specs.Sides.{sideAt, equalitySides, voltageSides, generatorSides, ratingSides, ratingsAt, otherSides, linearCost}
 
 sum-same : (w n : ℕ) → sum n (λ i. w) ≡ w * n
@@ -78,18 +77,18 @@ eight-blocks k n m x a c =
     )
     (simp append-assoc)
 
-module _ (l : SocWrLayout) (bytes : List ℕ) (ready : Ready l bytes) where
+module _ (l : SocWrLayout) (bytes : List ℕ) (laid : Laid l bytes) where
   -- q
   pub linear-length : length (linear (netOf l bytes)) ≡ total (layoutColumns l)
   unfolding linear
-  linear-length = listed-length _ _ ∙ sym (columns-length l bytes ready)
+  linear-length = listed-length _ _ ∙ sym (nvar-number l bytes laid)
 
   pub linear-parts : linear (netOf l bytes)
       ≡ listed (l .k) (linearCost l bytes) ++ listed (l .k + l .n + 6 * l .m) (λ c. zero64) ++ listed (l .«cost_columns») (λ c. add binary64 zero64 (rounded .one))
   unfolding linearCost
   linear-parts =
       linear-side (netOf l bytes)
-      ∙ rw (ones (l .k) (netOf l bytes .piecewise) (add binary64 zero64 (rounded .one)), ← ready .curves-are)
+      ∙ rw (ones (l .k) (netOf l bytes .piecewise) (add binary64 zero64 (rounded .one)), ← curves-are l bytes laid)
       (eight-blocks (l .k) (l .n) (l .m) zero64 (listed (l .k) (linearCost l bytes)) (listed (l .«cost_columns») (λ c. add binary64 zero64 (rounded .one))))
 
   intercepts : each (l .k) (λ g. each (netOf l bytes .segments g) (λ t. b (netOf l bytes) (Segment g t) ∷ [])) ≡ listed (l .s) (λ r. neg (interceptOf bytes (l .n + l .m + l .k + r)))
@@ -101,7 +100,7 @@ module _ (l : SocWrLayout) (bytes : List ℕ) (ready : Ready l bytes) where
       let e : l .n + l .m + l .k + sum g (netOf l bytes .segments) + t ≡ l .n + l .m + l .k + (sum g (netOf l bytes .segments) + t) = omega arith in
       ap (λ (r : ℕ). neg (interceptOf bytes r) ∷ []) e))
       ∙ sym (each-sums (netOf l bytes .segments) h (l .k))
-      ∙ ap (λ (n : ℕ). each n h) (ready .accepted .counts-add)
+      ∙ ap (λ (n : ℕ). each n h) (laid .accepted .counts-add)
     where
       h : ℕ → List Float
       h r = neg (interceptOf bytes (l .n + l .m + l .k + r)) ∷ []
@@ -119,12 +118,9 @@ module _ (l : SocWrLayout) (bytes : List ℕ) (ready : Ready l bytes) where
   generators-length = simp (length-append, listed-length) (omega arith)
 
   -- as many as the layout says
-  pub rows-length : total (layoutRows l) ≡ ncon (netOf l bytes)
-  rows-length = omega (arith, ready .limits-are, ready .accepted .counts-add)
-
   pub right-length : length (rightSide (netOf l bytes)) ≡ total (layoutRows l)
   unfolding rightSide
-  right-length = listed-length _ _ ∙ sym rows-length
+  right-length = listed-length _ _ ∙ sym (ncon-number l bytes laid)
 
   -- b
   pub right-parts : rightSide (netOf l bytes) ≡ equalitySides l bytes ++ voltageSides l bytes ++ generatorSides l bytes ++ otherSides l bytes

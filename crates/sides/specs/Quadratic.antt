@@ -5,10 +5,10 @@ use lib.Ieee.{Float, binary64, mul, ne}
 use Rattle.lists.specs.UpTo.{bit, sum}
 use Rattle.lists.specs.Entries.{Cell}
 use Rattle.numbering.specs.declared.SocWrLayout.{SocWrLayout}
+use Rattle.numbering.specs.Laid.{netOf}
 use Rattle.rows.specs.Ops.{rounded}
 use Rattle.rows.specs.Rows.{zero64}
 use Rattle.matrix.specs.Columns.{nonzeroCell}
-use Rattle.cells.specs.Ready.{netOf}
 
 abbrev pub quadValue : SocWrLayout → List ℕ → ℕ → Float
 quadValue l bytes g = mul binary64 (rounded .two) (netOf l bytes .cq g)

@@ -6,9 +6,9 @@ use Rattle.lists.specs.UpTo.{each, listed, when}
 use Rattle.records.specs.Fields.{interceptOf}
 use Rattle.numbering.specs.Blocks.{key}
 use Rattle.numbering.specs.Numbering.{rowOf}
+use Rattle.numbering.specs.Laid.{netOf}
 use Rattle.numbering.specs.declared.SocWrLayout.{SocWrLayout}
 use Rattle.rows.specs.Rows.{b, zero64}
-use Rattle.cells.specs.Ready.{netOf}
 
 pub data BusBlock : ℕ → Type 0 where
   pbal : BusBlock 0

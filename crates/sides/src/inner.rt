@@ -11,10 +11,10 @@ ghost use Rattle.lists.specs.UpTo.{each, listed, when, overlay};
 ghost use Rattle.records.specs.Fields.{interceptOf};
 ghost use Rattle.numbering.specs.Blocks.{total};
 ghost use Rattle.numbering.specs.Layout.{layoutColumns, layoutRows};
+ghost use Rattle.numbering.specs.Laid.{netOf, Laid};
 ghost use Rattle.rows.specs.Ops.{rounded};
 ghost use Rattle.rows.specs.Program.{linear};
 ghost use Rattle.matrix.specs.Lists.{rightSide};
-ghost use Rattle.cells.specs.Ready.{Ready, netOf};
 ghost use Rattle.cells.specs.Filled.{Filled};
 ghost use Rattle.sides.specs.Sides.{BusBlock, GenBlock, AngleBlock, sideAt, equalitySides, voltageSides, generatorSides, ratingSides, ratingsAt, otherSides, linearCost};
 
@@ -32,7 +32,7 @@ fn active(on: bool, v: f64) -> f64
 
 // The right side of bus i in block pbal, qbal, wub or wlb.
 fn bus_rhs(l: SocWrLayout, bytes: &[u8], block: usize, i: usize) -> f64
-    requires { ⌜ Ready l (now bytes) ⌝ }
+    requires { ⌜ Laid l (now bytes) ⌝ }
     requires { ⌜ BusBlock block ⌝ }
     requires { ⌜ i < l .n ⌝ }
     ensures { λ r. ⌜ r ≡ sideAt l (now (bytes .entry)) block i ⌝ }
@@ -54,7 +54,7 @@ fn bus_rhs(l: SocWrLayout, bytes: &[u8], block: usize, i: usize) -> f64
 
 // The right side of generator g in block pgub, pglb, qgub or qglb.
 fn gen_rhs(l: SocWrLayout, bytes: &[u8], block: usize, g: usize) -> f64
-    requires { ⌜ Ready l (now bytes) ⌝ }
+    requires { ⌜ Laid l (now bytes) ⌝ }
     requires { ⌜ GenBlock block ⌝ }
     requires { ⌜ g < l .k ⌝ }
     ensures { λ r. ⌜ r ≡ sideAt l (now (bytes .entry)) block g ⌝ }
@@ -75,7 +75,7 @@ fn gen_rhs(l: SocWrLayout, bytes: &[u8], block: usize, g: usize) -> f64
 
 // The right side of branch e in block angub or anglb.
 fn angle_rhs(l: SocWrLayout, bytes: &[u8], block: usize, e: usize) -> f64
-    requires { ⌜ Ready l (now bytes) ⌝ }
+    requires { ⌜ Laid l (now bytes) ⌝ }
     requires { ⌜ AngleBlock block ⌝ }
     requires { ⌜ e < l .m ⌝ }
     ensures { λ r. ⌜ r ≡ sideAt l (now (bytes .entry)) block e ⌝ }
@@ -85,7 +85,7 @@ fn angle_rhs(l: SocWrLayout, bytes: &[u8], block: usize, e: usize) -> f64
 
 // Two blocks of the buses that follow each other.
 fn fill_buses(out: &mut [f64], at: usize, l: SocWrLayout, bytes: &[u8], block: usize)
-    requires { ⌜ Ready l (now bytes) ⌝ }
+    requires { ⌜ Laid l (now bytes) ⌝ }
     requires { ⌜ BusBlock block × BusBlock (block + 1) ⌝ }
     requires { ⌜ at + 2 * l .n ≤ length (now out) ⌝ }
     ensures { λ _. ⌜ Filled (listed (l .n) (sideAt l (now (bytes .entry)) block) ++ listed (l .n) (sideAt l (now (bytes .entry)) (block + 1))) (now (out .entry)) at (now (out .exit)) ⌝ }
@@ -102,7 +102,7 @@ fn fill_buses(out: &mut [f64], at: usize, l: SocWrLayout, bytes: &[u8], block: u
 
 // pgub, pglb, qgub and qglb.
 fn fill_capabilities(out: &mut [f64], at: usize, l: SocWrLayout, bytes: &[u8])
-    requires { ⌜ Ready l (now bytes) ⌝ }
+    requires { ⌜ Laid l (now bytes) ⌝ }
     requires { ⌜ at + 4 * l .k ≤ length (now out) ⌝ }
     ensures { λ _. ⌜ Filled (generatorSides l (now (bytes .entry))) (now (out .entry)) at (now (out .exit)) ⌝ }
 {
@@ -122,7 +122,7 @@ fn fill_capabilities(out: &mut [f64], at: usize, l: SocWrLayout, bytes: &[u8])
 
 // angub and anglb.
 fn fill_angles(out: &mut [f64], at: usize, l: SocWrLayout, bytes: &[u8])
-    requires { ⌜ Ready l (now bytes) ⌝ }
+    requires { ⌜ Laid l (now bytes) ⌝ }
     requires { ⌜ at + 2 * l .m ≤ length (now out) ⌝ }
     ensures { λ _. ⌜ Filled (listed (l .m) (sideAt l (now (bytes .entry)) 12) ++ listed (l .m) (sideAt l (now (bytes .entry)) 13)) (now (out .entry)) at (now (out .exit)) ⌝ }
 {
@@ -186,7 +186,7 @@ fn put_rating(out: &mut [f64], at: usize, on: bool, v: f64) -> usize
 }
 
 fn fill_ratings(out: &mut [f64], at: usize, l: SocWrLayout, bytes: &[u8])
-    requires { ⌜ Ready l (now bytes) ⌝ }
+    requires { ⌜ Laid l (now bytes) ⌝ }
     requires { ⌜ at + 6 * l .t ≤ length (now out) ⌝ }
     ensures { λ _. ⌜ Filled (each (l .m) (ratingsAt l (now (bytes .entry)))) (now (out .entry)) at (now (out .exit)) ⌝ }
 {
@@ -204,7 +204,7 @@ fn fill_ratings(out: &mut [f64], at: usize, l: SocWrLayout, bytes: &[u8])
 
 // pbal, qbal and the Ohm rows.
 fn fill_equalities(out: &mut [f64], l: SocWrLayout, bytes: &[u8])
-    requires { ⌜ Ready l (now bytes) ⌝ }
+    requires { ⌜ Laid l (now bytes) ⌝ }
     requires { ⌜ 2 * l .n + 4 * l .m ≤ length (now out) ⌝ }
     ensures { λ _. ⌜ Filled (equalitySides l (now (bytes .entry))) (now (out .entry)) 0 (now (out .exit)) ⌝ }
 {
@@ -215,7 +215,7 @@ fn fill_equalities(out: &mut [f64], l: SocWrLayout, bytes: &[u8])
 }
 
 fn fill_voltages(out: &mut [f64], at: usize, l: SocWrLayout, bytes: &[u8])
-    requires { ⌜ Ready l (now bytes) ⌝ }
+    requires { ⌜ Laid l (now bytes) ⌝ }
     requires { ⌜ at + 2 * l .n ≤ length (now out) ⌝ }
     ensures { λ _. ⌜ Filled (voltageSides l (now (bytes .entry))) (now (out .entry)) at (now (out .exit)) ⌝ }
 {
@@ -224,7 +224,7 @@ fn fill_voltages(out: &mut [f64], at: usize, l: SocWrLayout, bytes: &[u8])
 
 // The angle, cost, jabr and thermal rows.
 fn fill_others(out: &mut [f64], at: usize, l: SocWrLayout, bytes: &[u8])
-    requires { ⌜ Ready l (now bytes) ⌝ }
+    requires { ⌜ Laid l (now bytes) ⌝ }
     requires { ⌜ at + 6 * l .m + l .s + 6 * l .t ≤ length (now out) ⌝ }
     ensures { λ _. ⌜ Filled (otherSides l (now (bytes .entry))) (now (out .entry)) at (now (out .exit)) ⌝ }
 {
@@ -241,7 +241,7 @@ fn fill_others(out: &mut [f64], at: usize, l: SocWrLayout, bytes: &[u8])
 
 // All of b.
 pub fn fill_b(out: &mut [f64], l: SocWrLayout, bytes: &[u8])
-    requires { ⌜ Ready l (now bytes) ⌝ }
+    requires { ⌜ Laid l (now bytes) ⌝ }
     requires { ⌜ total (layoutRows l) ≤ length (now out) ⌝ }
     ensures { λ _. ⌜ now (out .exit) ≡ overlay (rightSide (netOf l (now (bytes .entry)))) (now (out .entry)) ⌝ }
 {
@@ -256,7 +256,7 @@ pub fn fill_b(out: &mut [f64], l: SocWrLayout, bytes: &[u8])
 
 // 0 with the linear cost added, at each pg.
 fn fill_costs(out: &mut [f64], l: SocWrLayout, bytes: &[u8])
-    requires { ⌜ Ready l (now bytes) ⌝ }
+    requires { ⌜ Laid l (now bytes) ⌝ }
     requires { ⌜ l .k ≤ length (now out) ⌝ }
     ensures { λ _. ⌜ Filled (listed (l .k) (linearCost l (now (bytes .entry)))) (now (out .entry)) 0 (now (out .exit)) ⌝ }
 {
@@ -270,7 +270,7 @@ fn fill_costs(out: &mut [f64], l: SocWrLayout, bytes: &[u8])
 
 // All of q.
 pub fn fill_q(out: &mut [f64], l: SocWrLayout, bytes: &[u8])
-    requires { ⌜ Ready l (now bytes) ⌝ }
+    requires { ⌜ Laid l (now bytes) ⌝ }
     requires { ⌜ total (layoutColumns l) ≤ length (now out) ⌝ }
     ensures { λ _. ⌜ now (out .exit) ≡ overlay (linear (netOf l (now (bytes .entry)))) (now (out .entry)) ⌝ }
 {

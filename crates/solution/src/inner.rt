@@ -7,8 +7,8 @@ use refusals::Refusal;
 use refusals::or_else;
 use refusals::refuse_unless;
 ghost use mathlib.Core.Path.{_≡_};
-ghost use Rattle.solution.specs.Laid.{netOf, Laid};
 ghost use Rattle.solution.specs.Lengths.{xCause, zCause, solutionCause};
+ghost use Rattle.numbering.specs.Laid.{netOf, Laid};
 
 pub fn x_cause(l: SocWrLayout, bytes: &[u8], xs: usize) -> Checked
     requires { ⌜ Laid l (now bytes) ⌝ }

@@ -17,10 +17,10 @@ use records::inner::br_to;
 ghost use mathlib.Core.Path.{_≡_};
 ghost use Prim.Native.Nat.{_<_};
 ghost use Rattle.numbering.specs.Layout.{InRange, layoutColumn, layoutRow};
+ghost use Rattle.numbering.specs.Laid.{netOf, Laid};
 ghost use Rattle.numbering.specs.declared.ColumnName.the-variants.{W, Wr, Wi};
 ghost use Rattle.numbering.specs.declared.RowName.the-variants.{OhmPf, OhmQf, OhmPt, OhmQt};
 ghost use Rattle.admittance.specs.Stores.{storedAll};
-ghost use Rattle.solution.specs.Laid.{netOf, Laid};
 ghost use Rattle.admittance.specs.Admittance.{seriesStores};
 ghost use Rattle.admittance.specs.Places.{seriesEntries, landedAll};
 

@@ -18,8 +18,8 @@ ghost use mathlib.Core.Path.{_≡_};
 ghost use mathlib.Core.Bool.{true, false};
 ghost use Prim.Native.Nat.{_<_};
 ghost use Rattle.numbering.specs.Layout.{InRange, layoutColumn};
+ghost use Rattle.numbering.specs.Laid.{netOf, Laid};
 ghost use Rattle.rows.specs.Rows.{constant64};
-ghost use Rattle.lines.specs.Line.{networkIn, Network};
 ghost use Rattle.balance.specs.Ends.{endCount, endBus, endColumn, endConstant, selfValue};
 
 pub(crate) fn count_at(l: SocWrLayout, end: End) -> usize
@@ -34,9 +34,9 @@ pub(crate) fn count_at(l: SocWrLayout, end: End) -> usize
 
 // The bus of end j.
 pub(crate) fn bus_at(l: SocWrLayout, bytes: &[u8], end: End, j: usize) -> usize
-    requires { ⌜ Network l (now bytes) ⌝ }
+    requires { ⌜ Laid l (now bytes) ⌝ }
     requires { ⌜ j < endCount l end ⌝ }
-    ensures { λ r. ⌜ r ≡ endBus (networkIn l (now (bytes .entry))) end j ⌝ }
+    ensures { λ r. ⌜ r ≡ endBus (netOf l (now (bytes .entry))) end j ⌝ }
 {
     match end {
         End::Gen => wide(gen_bus(bytes, l.n + l.m + j)),
@@ -93,9 +93,9 @@ pub(crate) fn value_at(end: End) -> f64
 
 // The coefficient of the bus's own w.
 pub(crate) fn self_value(l: SocWrLayout, bytes: &[u8], q: bool, i: usize) -> f64
-    requires { ⌜ Network l (now bytes) ⌝ }
+    requires { ⌜ Laid l (now bytes) ⌝ }
     requires { ⌜ i < l .n ⌝ }
-    ensures { λ r. ⌜ r ≡ selfValue (networkIn l (now (bytes .entry))) q i ⌝ }
+    ensures { λ r. ⌜ r ≡ selfValue (netOf l (now (bytes .entry))) q i ⌝ }
 {
     if q {
         return bs(bytes, i);

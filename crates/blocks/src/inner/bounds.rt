@@ -17,9 +17,10 @@ ghost use Prim.Native.Nat.{_+_, _<_, _^_};
 ghost use lib.ListN.{length};
 ghost use Rattle.lists.specs.Out.{out, Wrote};
 ghost use Rattle.lists.specs.UpTo.{each};
-ghost use Rattle.lines.specs.Line.{networkIn, Network, Stands};
+ghost use Rattle.lines.specs.Line.{Stands};
 ghost use Rattle.complementarity.specs.Writes.{Given, rowIn};
 ghost use Rattle.blocks.specs.Kinds.{boundName, boundCount};
+ghost use Rattle.numbering.specs.Laid.{netOf, Laid};
 
 fn count_of(l: SocWrLayout, kind: Bound) -> usize
     ensures { λ r. ⌜ r ≡ boundCount l kind ⌝ }
@@ -37,9 +38,9 @@ fn count_of(l: SocWrLayout, kind: Bound) -> usize
 }
 
 fn bound_line(l: SocWrLayout, bytes: &[u8], kind: Bound, i: usize) -> Line
-    requires { ⌜ Network l (now bytes) ⌝ }
+    requires { ⌜ Laid l (now bytes) ⌝ }
     requires { ⌜ i < boundCount l kind ⌝ }
-    ensures { λ r. ⌜ Stands (networkIn l (now (bytes .entry))) (boundName kind i) r ⌝ }
+    ensures { λ r. ⌜ Stands (netOf l (now (bytes .entry))) (boundName kind i) r ⌝ }
 {
     match kind {
         Bound::Wub => wub(l, bytes, i),
@@ -68,8 +69,8 @@ fn bound_row(
 ) -> usize
     requires { ⌜ Given l (now bytes) (now x) (now z) ⌝ }
     requires { ⌜ i < boundCount l kind ⌝ }
-    requires { ⌜ at + length (rowIn (networkIn l (now bytes)) (now x) (now z) d (boundName kind i)) < 2 ^ 64 ⌝ }
-    ensures { λ next. ⌜ Wrote (rowIn (networkIn l (now (bytes .entry))) (now (x .entry)) (now (z .entry)) d (boundName kind i)) (out (now (rows .entry)) (now (cols .entry)) (now (vals .entry)) at) (out (now (rows .exit)) (now (cols .exit)) (now (vals .exit)) next) ⌝ }
+    requires { ⌜ at + length (rowIn (netOf l (now bytes)) (now x) (now z) d (boundName kind i)) < 2 ^ 64 ⌝ }
+    ensures { λ next. ⌜ Wrote (rowIn (netOf l (now (bytes .entry))) (now (x .entry)) (now (z .entry)) d (boundName kind i)) (out (now (rows .entry)) (now (cols .entry)) (now (vals .entry)) at) (out (now (rows .exit)) (now (cols .exit)) (now (vals .exit)) next) ⌝ }
 {
     let line = bound_line(l, bytes, kind, i);
     let v = nvar(l);
@@ -90,8 +91,8 @@ pub fn bound_rows(
     kind: Bound,
 ) -> usize
     requires { ⌜ Given l (now bytes) (now x) (now z) ⌝ }
-    requires { ⌜ at + length (each (boundCount l kind) (λ i. rowIn (networkIn l (now bytes)) (now x) (now z) d (boundName kind i))) < 2 ^ 64 ⌝ }
-    ensures { λ next. ⌜ Wrote (each (boundCount l kind) (λ i. rowIn (networkIn l (now (bytes .entry))) (now (x .entry)) (now (z .entry)) d (boundName kind i))) (out (now (rows .entry)) (now (cols .entry)) (now (vals .entry)) at) (out (now (rows .exit)) (now (cols .exit)) (now (vals .exit)) next) ⌝ }
+    requires { ⌜ at + length (each (boundCount l kind) (λ i. rowIn (netOf l (now bytes)) (now x) (now z) d (boundName kind i))) < 2 ^ 64 ⌝ }
+    ensures { λ next. ⌜ Wrote (each (boundCount l kind) (λ i. rowIn (netOf l (now (bytes .entry))) (now (x .entry)) (now (z .entry)) d (boundName kind i))) (out (now (rows .entry)) (now (cols .entry)) (now (vals .entry)) at) (out (now (rows .exit)) (now (cols .exit)) (now (vals .exit)) next) ⌝ }
 {
     let n = count_of(l, kind);
     let mut next = at;

@@ -13,7 +13,7 @@ ghost use lib.ListN.{length};
 ghost use Rattle.lists.specs.Out.{out, Wrote};
 ghost use Rattle.lists.specs.UpTo.{count, each};
 ghost use Rattle.numbering.specs.declared.RowName.the-variants.{Jabr};
-ghost use Rattle.lines.specs.Line.{networkIn};
+ghost use Rattle.numbering.specs.Laid.{netOf};
 ghost use Rattle.complementarity.specs.Writes.{Given, coneIn};
 ghost use Rattle.blocks.specs.Kinds.{thermalIn};
 
@@ -31,8 +31,8 @@ fn jabr_row(
 ) -> usize
     requires { ⌜ Given l (now bytes) (now x) (now z) ⌝ }
     requires { ⌜ e < l .m ⌝ }
-    requires { ⌜ at + length (coneIn (networkIn l (now bytes)) (now x) (now z) d 4 (Jabr e)) < 2 ^ 64 ⌝ }
-    ensures { λ next. ⌜ Wrote (coneIn (networkIn l (now (bytes .entry))) (now (x .entry)) (now (z .entry)) d 4 (Jabr e)) (out (now (rows .entry)) (now (cols .entry)) (now (vals .entry)) at) (out (now (rows .exit)) (now (cols .exit)) (now (vals .exit)) next) ⌝ }
+    requires { ⌜ at + length (coneIn (netOf l (now bytes)) (now x) (now z) d 4 (Jabr e)) < 2 ^ 64 ⌝ }
+    ensures { λ next. ⌜ Wrote (coneIn (netOf l (now (bytes .entry))) (now (x .entry)) (now (z .entry)) d 4 (Jabr e)) (out (now (rows .entry)) (now (cols .entry)) (now (vals .entry)) at) (out (now (rows .exit)) (now (cols .exit)) (now (vals .exit)) next) ⌝ }
 {
     let c = jabr(l, bytes, e);
     let v = nvar(l);
@@ -52,8 +52,8 @@ pub fn jabr_rows(
     d: bool,
 ) -> usize
     requires { ⌜ Given l (now bytes) (now x) (now z) ⌝ }
-    requires { ⌜ at + length (each (l .m) (λ e. coneIn (networkIn l (now bytes)) (now x) (now z) d 4 (Jabr e))) < 2 ^ 64 ⌝ }
-    ensures { λ next. ⌜ Wrote (each (l .m) (λ e. coneIn (networkIn l (now (bytes .entry))) (now (x .entry)) (now (z .entry)) d 4 (Jabr e))) (out (now (rows .entry)) (now (cols .entry)) (now (vals .entry)) at) (out (now (rows .exit)) (now (cols .exit)) (now (vals .exit)) next) ⌝ }
+    requires { ⌜ at + length (each (l .m) (λ e. coneIn (netOf l (now bytes)) (now x) (now z) d 4 (Jabr e))) < 2 ^ 64 ⌝ }
+    ensures { λ next. ⌜ Wrote (each (l .m) (λ e. coneIn (netOf l (now (bytes .entry))) (now (x .entry)) (now (z .entry)) d 4 (Jabr e))) (out (now (rows .entry)) (now (cols .entry)) (now (vals .entry)) at) (out (now (rows .exit)) (now (cols .exit)) (now (vals .exit)) next) ⌝ }
 {
     let mut next = at;
     let mut e = 0;
@@ -79,9 +79,9 @@ fn thermal_row(
     limits: usize,
 ) -> usize
     requires { ⌜ Given l (now bytes) (now x) (now z) ⌝ }
-    requires { ⌜ (e < l .m) × (limits ≡ count e ((networkIn l (now bytes)) .limited)) ⌝ }
-    requires { ⌜ at + length (thermalIn (networkIn l (now bytes)) (now x) (now z) d e) < 2 ^ 64 ⌝ }
-    ensures { λ next. ⌜ Wrote (thermalIn (networkIn l (now (bytes .entry))) (now (x .entry)) (now (z .entry)) d e) (out (now (rows .entry)) (now (cols .entry)) (now (vals .entry)) at) (out (now (rows .exit)) (now (cols .exit)) (now (vals .exit)) next) ⌝ }
+    requires { ⌜ (e < l .m) × (limits ≡ count e ((netOf l (now bytes)) .limited)) ⌝ }
+    requires { ⌜ at + length (thermalIn (netOf l (now bytes)) (now x) (now z) d e) < 2 ^ 64 ⌝ }
+    ensures { λ next. ⌜ Wrote (thermalIn (netOf l (now (bytes .entry))) (now (x .entry)) (now (z .entry)) d e) (out (now (rows .entry)) (now (cols .entry)) (now (vals .entry)) at) (out (now (rows .exit)) (now (cols .exit)) (now (vals .exit)) next) ⌝ }
 {
     if thermal_limit_active(bytes, l.n + e) {
         let v = nvar(l);
@@ -106,8 +106,8 @@ pub fn thermal_rows(
     d: bool,
 ) -> usize
     requires { ⌜ Given l (now bytes) (now x) (now z) ⌝ }
-    requires { ⌜ at + length (each (l .m) (thermalIn (networkIn l (now bytes)) (now x) (now z) d)) < 2 ^ 64 ⌝ }
-    ensures { λ next. ⌜ Wrote (each (l .m) (thermalIn (networkIn l (now (bytes .entry))) (now (x .entry)) (now (z .entry)) d)) (out (now (rows .entry)) (now (cols .entry)) (now (vals .entry)) at) (out (now (rows .exit)) (now (cols .exit)) (now (vals .exit)) next) ⌝ }
+    requires { ⌜ at + length (each (l .m) (thermalIn (netOf l (now bytes)) (now x) (now z) d)) < 2 ^ 64 ⌝ }
+    ensures { λ next. ⌜ Wrote (each (l .m) (thermalIn (netOf l (now (bytes .entry))) (now (x .entry)) (now (z .entry)) d)) (out (now (rows .entry)) (now (cols .entry)) (now (vals .entry)) at) (out (now (rows .exit)) (now (cols .exit)) (now (vals .exit)) next) ⌝ }
 {
     let mut limits = 0;
     let mut next = at;

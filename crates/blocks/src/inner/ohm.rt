@@ -14,9 +14,9 @@ ghost use lib.ListN.{length};
 ghost use Rattle.lists.specs.Out.{out, Wrote};
 ghost use Rattle.lists.specs.UpTo.{each};
 ghost use Rattle.kkt.specs.Kkt.{plainRow};
-ghost use Rattle.lines.specs.Line.{networkIn, Network};
 ghost use Rattle.lines.specs.Ohm.{ohmAt, OhmStands};
 ghost use Rattle.blocks.specs.Kinds.{flowName};
+ghost use Rattle.numbering.specs.Laid.{netOf, Laid};
 
 fn put_ohm(rows: &mut [u32], cols: &mut [u32], vals: &mut [f64], at: usize, r: u32, o: Ohm) -> usize
     requires { ⌜ at + length (ohmAt r o) < 2 ^ 64 ⌝ }
@@ -32,9 +32,9 @@ fn put_ohm(rows: &mut [u32], cols: &mut [u32], vals: &mut [f64], at: usize, r: u
 }
 
 fn ohm_line(l: SocWrLayout, bytes: &[u8], flow: Flow, e: usize) -> Ohm
-    requires { ⌜ Network l (now bytes) ⌝ }
+    requires { ⌜ Laid l (now bytes) ⌝ }
     requires { ⌜ e < l .m ⌝ }
-    ensures { λ r. ⌜ OhmStands (networkIn l (now (bytes .entry))) (flowName flow e) r ⌝ }
+    ensures { λ r. ⌜ OhmStands (netOf l (now (bytes .entry))) (flowName flow e) r ⌝ }
 {
     match flow {
         Flow::Pf => ohm_pf(l, bytes, e),
@@ -54,10 +54,10 @@ fn ohm_row(
     flow: Flow,
     e: usize,
 ) -> usize
-    requires { ⌜ Network l (now bytes) ⌝ }
+    requires { ⌜ Laid l (now bytes) ⌝ }
     requires { ⌜ e < l .m ⌝ }
-    requires { ⌜ at + length (plainRow (networkIn l (now bytes)) (flowName flow e)) < 2 ^ 64 ⌝ }
-    ensures { λ next. ⌜ Wrote (plainRow (networkIn l (now (bytes .entry))) (flowName flow e)) (out (now (rows .entry)) (now (cols .entry)) (now (vals .entry)) at) (out (now (rows .exit)) (now (cols .exit)) (now (vals .exit)) next) ⌝ }
+    requires { ⌜ at + length (plainRow (netOf l (now bytes)) (flowName flow e)) < 2 ^ 64 ⌝ }
+    ensures { λ next. ⌜ Wrote (plainRow (netOf l (now (bytes .entry))) (flowName flow e)) (out (now (rows .entry)) (now (cols .entry)) (now (vals .entry)) at) (out (now (rows .exit)) (now (cols .exit)) (now (vals .exit)) next) ⌝ }
 {
     let o = ohm_line(l, bytes, flow, e);
     let r = nvar(l) + o.row;
@@ -74,9 +74,9 @@ pub fn ohm_rows(
     bytes: &[u8],
     flow: Flow,
 ) -> usize
-    requires { ⌜ Network l (now bytes) ⌝ }
-    requires { ⌜ at + length (each (l .m) (λ e. plainRow (networkIn l (now bytes)) (flowName flow e))) < 2 ^ 64 ⌝ }
-    ensures { λ next. ⌜ Wrote (each (l .m) (λ e. plainRow (networkIn l (now (bytes .entry))) (flowName flow e))) (out (now (rows .entry)) (now (cols .entry)) (now (vals .entry)) at) (out (now (rows .exit)) (now (cols .exit)) (now (vals .exit)) next) ⌝ }
+    requires { ⌜ Laid l (now bytes) ⌝ }
+    requires { ⌜ at + length (each (l .m) (λ e. plainRow (netOf l (now bytes)) (flowName flow e))) < 2 ^ 64 ⌝ }
+    ensures { λ next. ⌜ Wrote (each (l .m) (λ e. plainRow (netOf l (now (bytes .entry))) (flowName flow e))) (out (now (rows .entry)) (now (cols .entry)) (now (vals .entry)) at) (out (now (rows .exit)) (now (cols .exit)) (now (vals .exit)) next) ⌝ }
 {
     let mut next = at;
     let mut e = 0;

@@ -7,7 +7,7 @@ ghost use Prim.Native.Nat.{_+_, _*_, _<_, _^_};
 ghost use lib.ListN.{length};
 ghost use Rattle.lists.specs.Out.{out, Wrote};
 ghost use Rattle.rows.specs.Program.{quadratic};
-ghost use Rattle.lines.specs.Line.{networkIn, Network};
+ghost use Rattle.numbering.specs.Laid.{netOf, Laid};
 
 // The diagonal of P.
 pub fn put_quadratic(
@@ -18,9 +18,9 @@ pub fn put_quadratic(
     l: SocWrLayout,
     bytes: &[u8],
 ) -> usize
-    requires { ⌜ Network l (now bytes) ⌝ }
-    requires { ⌜ at + length (quadratic (networkIn l (now bytes))) < 2 ^ 64 ⌝ }
-    ensures { λ next. ⌜ Wrote (quadratic (networkIn l (now (bytes .entry)))) (out (now (rows .entry)) (now (cols .entry)) (now (vals .entry)) at) (out (now (rows .exit)) (now (cols .exit)) (now (vals .exit)) next) ⌝ }
+    requires { ⌜ Laid l (now bytes) ⌝ }
+    requires { ⌜ at + length (quadratic (netOf l (now bytes))) < 2 ^ 64 ⌝ }
+    ensures { λ next. ⌜ Wrote (quadratic (netOf l (now (bytes .entry)))) (out (now (rows .entry)) (now (cols .entry)) (now (vals .entry)) at) (out (now (rows .exit)) (now (cols .exit)) (now (vals .exit)) next) ⌝ }
 {
     let mut next = at;
     let mut g = 0;

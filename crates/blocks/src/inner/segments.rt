@@ -11,7 +11,7 @@ ghost use lib.ListN.{length};
 ghost use Rattle.lists.specs.Out.{out, Wrote};
 ghost use Rattle.lists.specs.UpTo.{sum, count, each, bit as one};
 ghost use Rattle.numbering.specs.declared.RowName.the-variants.{Segment};
-ghost use Rattle.lines.specs.Line.{networkIn};
+ghost use Rattle.numbering.specs.Laid.{netOf};
 ghost use Rattle.complementarity.specs.Writes.{Given, rowIn};
 
 fn segment_row(
@@ -30,10 +30,10 @@ fn segment_row(
     curves: usize,
 ) -> usize
     requires { ⌜ Given l (now bytes) (now x) (now z) ⌝ }
-    requires { ⌜ (g < l .k) × (t < (networkIn l (now bytes)) .segments g) ⌝ }
-    requires { ⌜ (before ≡ sum g ((networkIn l (now bytes)) .segments)) × (curves ≡ count g ((networkIn l (now bytes)) .piecewise)) ⌝ }
-    requires { ⌜ at + length (rowIn (networkIn l (now bytes)) (now x) (now z) d (Segment g t)) < 2 ^ 64 ⌝ }
-    ensures { λ next. ⌜ Wrote (rowIn (networkIn l (now (bytes .entry))) (now (x .entry)) (now (z .entry)) d (Segment g t)) (out (now (rows .entry)) (now (cols .entry)) (now (vals .entry)) at) (out (now (rows .exit)) (now (cols .exit)) (now (vals .exit)) next) ⌝ }
+    requires { ⌜ (g < l .k) × (t < (netOf l (now bytes)) .segments g) ⌝ }
+    requires { ⌜ (before ≡ sum g ((netOf l (now bytes)) .segments)) × (curves ≡ count g ((netOf l (now bytes)) .piecewise)) ⌝ }
+    requires { ⌜ at + length (rowIn (netOf l (now bytes)) (now x) (now z) d (Segment g t)) < 2 ^ 64 ⌝ }
+    ensures { λ next. ⌜ Wrote (rowIn (netOf l (now (bytes .entry))) (now (x .entry)) (now (z .entry)) d (Segment g t)) (out (now (rows .entry)) (now (cols .entry)) (now (vals .entry)) at) (out (now (rows .exit)) (now (cols .exit)) (now (vals .exit)) next) ⌝ }
 {
     let line = segment(l, bytes, g, t, before, curves);
     let v = nvar(l);
@@ -57,9 +57,9 @@ fn segments_of(
 ) -> usize
     requires { ⌜ Given l (now bytes) (now x) (now z) ⌝ }
     requires { ⌜ g < l .k ⌝ }
-    requires { ⌜ (before ≡ sum g ((networkIn l (now bytes)) .segments)) × (curves ≡ count g ((networkIn l (now bytes)) .piecewise)) ⌝ }
-    requires { ⌜ at + length (each ((networkIn l (now bytes)) .segments g) (λ t. rowIn (networkIn l (now bytes)) (now x) (now z) d (Segment g t))) < 2 ^ 64 ⌝ }
-    ensures { λ next. ⌜ Wrote (each ((networkIn l (now (bytes .entry))) .segments g) (λ t. rowIn (networkIn l (now (bytes .entry))) (now (x .entry)) (now (z .entry)) d (Segment g t))) (out (now (rows .entry)) (now (cols .entry)) (now (vals .entry)) at) (out (now (rows .exit)) (now (cols .exit)) (now (vals .exit)) next) ⌝ }
+    requires { ⌜ (before ≡ sum g ((netOf l (now bytes)) .segments)) × (curves ≡ count g ((netOf l (now bytes)) .piecewise)) ⌝ }
+    requires { ⌜ at + length (each ((netOf l (now bytes)) .segments g) (λ t. rowIn (netOf l (now bytes)) (now x) (now z) d (Segment g t))) < 2 ^ 64 ⌝ }
+    ensures { λ next. ⌜ Wrote (each ((netOf l (now (bytes .entry))) .segments g) (λ t. rowIn (netOf l (now (bytes .entry))) (now (x .entry)) (now (z .entry)) d (Segment g t))) (out (now (rows .entry)) (now (cols .entry)) (now (vals .entry)) at) (out (now (rows .exit)) (now (cols .exit)) (now (vals .exit)) next) ⌝ }
 {
     let r = l.n + l.m + g;
     let n = segments(bytes, r);
@@ -109,8 +109,8 @@ pub fn segment_rows(
     d: bool,
 ) -> usize
     requires { ⌜ Given l (now bytes) (now x) (now z) ⌝ }
-    requires { ⌜ at + length (each (l .k) (λ g. each ((networkIn l (now bytes)) .segments g) (λ t. rowIn (networkIn l (now bytes)) (now x) (now z) d (Segment g t)))) < 2 ^ 64 ⌝ }
-    ensures { λ next. ⌜ Wrote (each (l .k) (λ g. each ((networkIn l (now (bytes .entry))) .segments g) (λ t. rowIn (networkIn l (now (bytes .entry))) (now (x .entry)) (now (z .entry)) d (Segment g t)))) (out (now (rows .entry)) (now (cols .entry)) (now (vals .entry)) at) (out (now (rows .exit)) (now (cols .exit)) (now (vals .exit)) next) ⌝ }
+    requires { ⌜ at + length (each (l .k) (λ g. each ((netOf l (now bytes)) .segments g) (λ t. rowIn (netOf l (now bytes)) (now x) (now z) d (Segment g t)))) < 2 ^ 64 ⌝ }
+    ensures { λ next. ⌜ Wrote (each (l .k) (λ g. each ((netOf l (now (bytes .entry))) .segments g) (λ t. rowIn (netOf l (now (bytes .entry))) (now (x .entry)) (now (z .entry)) d (Segment g t)))) (out (now (rows .entry)) (now (cols .entry)) (now (vals .entry)) at) (out (now (rows .exit)) (now (cols .exit)) (now (vals .exit)) next) ⌝ }
 {
     let mut before = 0;
     let mut curves = 0;

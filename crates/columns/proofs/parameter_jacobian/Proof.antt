@@ -8,7 +8,7 @@ use Rattle.refusals.proofs.Laws.{accepted-by, refused-by}
 use Rattle.records.specs.Check.{checkOf}
 use Rattle.records.proofs.Laws.{accepted}
 use Rattle.numbering.proofs.OnePass.{pass-layout, pass-before}
-use Rattle.solution.proofs.Laid.{laid}
+use Rattle.numbering.proofs.Laid.{laid}
 use Rattle.solution.proofs.Entry.{answer-first, left-first, then-second}
 use Rattle.columns.proofs.parameter_jacobian.Statement.{statement}
 use Rattle.columns.proofs.parameter_jacobian.Tie as tie

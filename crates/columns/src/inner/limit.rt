@@ -13,10 +13,10 @@ ghost use lib.Ieee.{nan};
 ghost use Rattle.lists.specs.UpTo.{each};
 ghost use Rattle.numbering.specs.Numbering.{rowNumber};
 ghost use Rattle.numbering.specs.Tally.{tallyOf};
+ghost use Rattle.numbering.specs.Laid.{netOf, Laid};
 ghost use Rattle.numbering.specs.declared.Tally.the-variants.{Limited};
 ghost use Rattle.numbering.specs.declared.RowName.the-variants.{Thermal};
 ghost use Rattle.admittance.specs.Stores.{put, storedAll};
-ghost use Rattle.solution.specs.Laid.{netOf, Laid};
 ghost use Rattle.columns.specs.Jacobian.{limitStores};
 
 // z at six rows from the base on.

@@ -2,8 +2,9 @@
 use mathlib.Core.Path.{sym, _∙_}
 use Rattle.refusals.proofs.Laws.{passed}
 use Rattle.records.proofs.Laws.{accepted}
+use Rattle.numbering.proofs.Laid.{laid}
 use Rattle.entries.specs.Answer.{kktCheck}
-use Rattle.entries.proofs.Answers.{network, stopped, went-on}
+use Rattle.entries.proofs.Answers.{stopped, went-on}
 use borrow.Author.Needs.{needs}
 use Rattle.entries.proofs.kkt_entries.Statement.{statement}
 use Rattle.entries.proofs.kkt_entries.Tie as tie
@@ -16,7 +17,7 @@ layout-requires : tie.Need-layout-requires
 layout-requires c κs = accepted _ _ _ _ _ (sym (c .before .before .check-records .ensures) ∙ passed _ (sym (c .before .is-refused .ensures) ∙ c .if1 .left))
 
 kkt-checked-requires : tie.Need-kkt-checked-requires
-kkt-checked-requires c κs = network (accepted _ _ _ _ _ (sym (c .before .before .before .before .before .before .check-records .ensures) ∙ passed _ (sym (c .before .before .before .before .before .is-refused .ensures) ∙ c .before .before .before .before .if1 .left))) (c .before .before .before .layout .ensures)
+kkt-checked-requires c κs = laid _ _ _ _ _ (accepted _ _ _ _ _ (sym (c .before .before .before .before .before .before .check-records .ensures) ∙ passed _ (sym (c .before .before .before .before .before .is-refused .ensures) ∙ c .before .before .before .before .if1 .left))) (c .before .before .before .layout .ensures)
 
 returns-2 : tie.Need-returns-2
 unfolding kktCheck

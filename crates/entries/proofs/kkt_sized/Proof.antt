@@ -2,7 +2,6 @@
 use native.Mathlib.Nat.{zero-add}
 use mathlib.Core.Path.{sym, _∙_}
 use Rattle.refusals.proofs.Laws.{passed}
-use Rattle.lines.proofs.Lines.{in-range}
 use Rattle.entries.proofs.Answers.{short, rooms, room-less, wrote}
 use borrow.Author.Needs.{needs}
 use native.Mathlib.Omega.{arith}
@@ -10,7 +9,7 @@ use Rattle.entries.proofs.kkt_sized.Statement.{statement}
 use Rattle.entries.proofs.kkt_sized.Tie as tie
 
 most-requires : tie.Need-most-requires
-most-requires c κs = in-range (c .before .before .before .before .before .before .pre .network)
+most-requires c κs = c .before .before .before .before .before .before .pre .laid .range
 
 returns : tie.Need-returns
 returns c = c .before .before .before .before .before .before .kkt-counted .ensures

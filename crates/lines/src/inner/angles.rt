@@ -13,12 +13,13 @@ use records::inner::tan_angmax;
 use records::inner::tan_angmin;
 ghost use Prim.Native.Nat.{_<_};
 ghost use Rattle.numbering.specs.declared.RowName.the-variants.{Angub, Anglb};
-ghost use Rattle.lines.specs.Line.{Network, networkIn, Stands};
+ghost use Rattle.numbering.specs.Laid.{netOf, Laid};
+ghost use Rattle.lines.specs.Line.{Stands};
 
 pub fn angub(l: SocWrLayout, bytes: &[u8], e: usize) -> Line
-    requires { ⌜ Network l (now bytes) ⌝ }
+    requires { ⌜ Laid l (now bytes) ⌝ }
     requires { ⌜ e < l .m ⌝ }
-    ensures { λ r. ⌜ Stands (networkIn l (now (bytes .entry))) (Angub e) r ⌝ }
+    ensures { λ r. ⌜ Stands (netOf l (now (bytes .entry))) (Angub e) r ⌝ }
 {
     let r = l.n + e;
     let on = conic_angle_bound_active(bytes, r);
@@ -33,9 +34,9 @@ pub fn angub(l: SocWrLayout, bytes: &[u8], e: usize) -> Line
 }
 
 pub fn anglb(l: SocWrLayout, bytes: &[u8], e: usize) -> Line
-    requires { ⌜ Network l (now bytes) ⌝ }
+    requires { ⌜ Laid l (now bytes) ⌝ }
     requires { ⌜ e < l .m ⌝ }
-    ensures { λ r. ⌜ Stands (networkIn l (now (bytes .entry))) (Anglb e) r ⌝ }
+    ensures { λ r. ⌜ Stands (netOf l (now (bytes .entry))) (Anglb e) r ⌝ }
 {
     let r = l.n + e;
     let on = conic_angle_bound_active(bytes, r);

@@ -11,12 +11,13 @@ use records::inner::vm_min;
 use records::inner::voltage_bound_active;
 ghost use Prim.Native.Nat.{_<_};
 ghost use Rattle.numbering.specs.declared.RowName.the-variants.{Wub, Wlb};
-ghost use Rattle.lines.specs.Line.{Network, networkIn, Stands};
+ghost use Rattle.numbering.specs.Laid.{netOf, Laid};
+ghost use Rattle.lines.specs.Line.{Stands};
 
 pub fn wub(l: SocWrLayout, bytes: &[u8], i: usize) -> Line
-    requires { ⌜ Network l (now bytes) ⌝ }
+    requires { ⌜ Laid l (now bytes) ⌝ }
     requires { ⌜ i < l .n ⌝ }
-    ensures { λ r. ⌜ Stands (networkIn l (now (bytes .entry))) (Wub i) r ⌝ }
+    ensures { λ r. ⌜ Stands (netOf l (now (bytes .entry))) (Wub i) r ⌝ }
 {
     let on = voltage_bound_active(bytes, i);
     let vm = vm_max(bytes, i);
@@ -25,9 +26,9 @@ pub fn wub(l: SocWrLayout, bytes: &[u8], i: usize) -> Line
 }
 
 pub fn wlb(l: SocWrLayout, bytes: &[u8], i: usize) -> Line
-    requires { ⌜ Network l (now bytes) ⌝ }
+    requires { ⌜ Laid l (now bytes) ⌝ }
     requires { ⌜ i < l .n ⌝ }
-    ensures { λ r. ⌜ Stands (networkIn l (now (bytes .entry))) (Wlb i) r ⌝ }
+    ensures { λ r. ⌜ Stands (netOf l (now (bytes .entry))) (Wlb i) r ⌝ }
 {
     let on = voltage_bound_active(bytes, i);
     let vm = vm_min(bytes, i);

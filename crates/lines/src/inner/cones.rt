@@ -23,8 +23,9 @@ ghost use mathlib.Core.Bool.{true};
 ghost use Prim.Native.Nat.{_+_, _*_, _<_, _^_};
 ghost use Rattle.lists.specs.UpTo.{count};
 ghost use Rattle.numbering.specs.declared.RowName.the-variants.{Jabr};
+ghost use Rattle.numbering.specs.Laid.{netOf, Laid};
 ghost use Rattle.rows.specs.Program.{thermalFrom, thermalTo};
-ghost use Rattle.lines.specs.Line.{Network, networkIn, ends as endsOf, thermal as thermalOf, coneLine, ConeStands};
+ghost use Rattle.lines.specs.Line.{ends as endsOf, thermal as thermalOf, coneLine, ConeStands};
 
 // Row l of a cone.
 pub fn line_of(c: Cone, l: usize) -> Line
@@ -44,9 +45,9 @@ pub fn line_of(c: Cone, l: usize) -> Line
 
 // -0.5 at the from bus and v at the to bus, the smaller number first.
 fn ends(l: SocWrLayout, bytes: &[u8], e: usize, row: u32, v: f64) -> Line
-    requires { ⌜ Network l (now bytes) ⌝ }
+    requires { ⌜ Laid l (now bytes) ⌝ }
     requires { ⌜ e < l .m ⌝ }
-    ensures { λ r. ⌜ r ≡ endsOf l (networkIn l (now (bytes .entry)) .from e) (networkIn l (now (bytes .entry)) .to e) row v ⌝ }
+    ensures { λ r. ⌜ r ≡ endsOf l (netOf l (now (bytes .entry)) .from e) (netOf l (now (bytes .entry)) .to e) row v ⌝ }
 {
     let r = l.n + e;
     let from = wide(br_from(bytes, r));
@@ -60,9 +61,9 @@ fn ends(l: SocWrLayout, bytes: &[u8], e: usize, row: u32, v: f64) -> Line
 }
 
 pub fn jabr(l: SocWrLayout, bytes: &[u8], e: usize) -> Cone
-    requires { ⌜ Network l (now bytes) ⌝ }
+    requires { ⌜ Laid l (now bytes) ⌝ }
     requires { ⌜ e < l .m ⌝ }
-    ensures { λ r. ⌜ ConeStands (networkIn l (now (bytes .entry))) 4 (Jabr e) r ⌝ }
+    ensures { λ r. ⌜ ConeStands (netOf l (now (bytes .entry))) 4 (Jabr e) r ⌝ }
 {
     let row = r_jabr(l, e);
     let a = ends(l, bytes, e, row, -0.5);
@@ -85,18 +86,18 @@ fn thermal(row: u32, rate: f64, p: u32, q: u32) -> Cone
 
 // The cone at the from end of a limited branch; so many limited branches are before it.
 pub fn thermal_from(l: SocWrLayout, bytes: &[u8], e: usize, limits: usize) -> Cone
-    requires { ⌜ Network l (now bytes) ⌝ }
-    requires { ⌜ (e < l .m) × (networkIn l (now bytes) .limited e ≡ true) × (limits ≡ count e (networkIn l (now bytes) .limited)) ⌝ }
-    ensures { λ r. ⌜ ConeStands (networkIn l (now (bytes .entry))) 3 (thermalFrom e) r ⌝ }
+    requires { ⌜ Laid l (now bytes) ⌝ }
+    requires { ⌜ (e < l .m) × (netOf l (now bytes) .limited e ≡ true) × (limits ≡ count e (netOf l (now bytes) .limited)) ⌝ }
+    ensures { λ r. ⌜ ConeStands (netOf l (now (bytes .entry))) 3 (thermalFrom e) r ⌝ }
 {
     let row = thermal_base(l) + (6 * limits) as u32;
     thermal(row, rate_a(bytes, l.n + e), col_pf(l, e), col_qf(l, e))
 }
 
 pub fn thermal_to(l: SocWrLayout, bytes: &[u8], e: usize, limits: usize) -> Cone
-    requires { ⌜ Network l (now bytes) ⌝ }
-    requires { ⌜ (e < l .m) × (networkIn l (now bytes) .limited e ≡ true) × (limits ≡ count e (networkIn l (now bytes) .limited)) ⌝ }
-    ensures { λ r. ⌜ ConeStands (networkIn l (now (bytes .entry))) 3 (thermalTo e) r ⌝ }
+    requires { ⌜ Laid l (now bytes) ⌝ }
+    requires { ⌜ (e < l .m) × (netOf l (now bytes) .limited e ≡ true) × (limits ≡ count e (netOf l (now bytes) .limited)) ⌝ }
+    ensures { λ r. ⌜ ConeStands (netOf l (now (bytes .entry))) 3 (thermalTo e) r ⌝ }
 {
     let row = thermal_base(l) + (6 * limits + 3) as u32;
     thermal(row, rate_a(bytes, l.n + e), col_pt(l, e), col_qt(l, e))

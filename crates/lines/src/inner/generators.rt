@@ -24,12 +24,13 @@ ghost use mathlib.Core.Path.{_≡_};
 ghost use Prim.Native.Nat.{_<_};
 ghost use Rattle.lists.specs.UpTo.{sum, count};
 ghost use Rattle.numbering.specs.declared.RowName.the-variants.{Pgub, Pglb, Qgub, Qglb, Segment};
-ghost use Rattle.lines.specs.Line.{Network, networkIn, Stands};
+ghost use Rattle.numbering.specs.Laid.{netOf, Laid};
+ghost use Rattle.lines.specs.Line.{Stands};
 
 pub fn pgub(l: SocWrLayout, bytes: &[u8], g: usize) -> Line
-    requires { ⌜ Network l (now bytes) ⌝ }
+    requires { ⌜ Laid l (now bytes) ⌝ }
     requires { ⌜ g < l .k ⌝ }
-    ensures { λ r. ⌜ Stands (networkIn l (now (bytes .entry))) (Pgub g) r ⌝ }
+    ensures { λ r. ⌜ Stands (netOf l (now (bytes .entry))) (Pgub g) r ⌝ }
 {
     let r = l.n + l.m + g;
     let on = generator_capability_active(bytes, r);
@@ -39,9 +40,9 @@ pub fn pgub(l: SocWrLayout, bytes: &[u8], g: usize) -> Line
 }
 
 pub fn pglb(l: SocWrLayout, bytes: &[u8], g: usize) -> Line
-    requires { ⌜ Network l (now bytes) ⌝ }
+    requires { ⌜ Laid l (now bytes) ⌝ }
     requires { ⌜ g < l .k ⌝ }
-    ensures { λ r. ⌜ Stands (networkIn l (now (bytes .entry))) (Pglb g) r ⌝ }
+    ensures { λ r. ⌜ Stands (netOf l (now (bytes .entry))) (Pglb g) r ⌝ }
 {
     let r = l.n + l.m + g;
     let on = generator_capability_active(bytes, r);
@@ -51,9 +52,9 @@ pub fn pglb(l: SocWrLayout, bytes: &[u8], g: usize) -> Line
 }
 
 pub fn qgub(l: SocWrLayout, bytes: &[u8], g: usize) -> Line
-    requires { ⌜ Network l (now bytes) ⌝ }
+    requires { ⌜ Laid l (now bytes) ⌝ }
     requires { ⌜ g < l .k ⌝ }
-    ensures { λ r. ⌜ Stands (networkIn l (now (bytes .entry))) (Qgub g) r ⌝ }
+    ensures { λ r. ⌜ Stands (netOf l (now (bytes .entry))) (Qgub g) r ⌝ }
 {
     let r = l.n + l.m + g;
     let on = generator_capability_active(bytes, r);
@@ -63,9 +64,9 @@ pub fn qgub(l: SocWrLayout, bytes: &[u8], g: usize) -> Line
 }
 
 pub fn qglb(l: SocWrLayout, bytes: &[u8], g: usize) -> Line
-    requires { ⌜ Network l (now bytes) ⌝ }
+    requires { ⌜ Laid l (now bytes) ⌝ }
     requires { ⌜ g < l .k ⌝ }
-    ensures { λ r. ⌜ Stands (networkIn l (now (bytes .entry))) (Qglb g) r ⌝ }
+    ensures { λ r. ⌜ Stands (netOf l (now (bytes .entry))) (Qglb g) r ⌝ }
 {
     let r = l.n + l.m + g;
     let on = generator_capability_active(bytes, r);
@@ -83,10 +84,10 @@ pub fn segment(
     segments: usize,
     curves: usize,
 ) -> Line
-    requires { ⌜ Network l (now bytes) ⌝ }
-    requires { ⌜ (g < l .k) × (t < networkIn l (now bytes) .segments g) ⌝ }
-    requires { ⌜ (segments ≡ sum g (networkIn l (now bytes) .segments)) × (curves ≡ count g (networkIn l (now bytes) .piecewise)) ⌝ }
-    ensures { λ r. ⌜ Stands (networkIn l (now (bytes .entry))) (Segment g t) r ⌝ }
+    requires { ⌜ Laid l (now bytes) ⌝ }
+    requires { ⌜ (g < l .k) × (t < netOf l (now bytes) .segments g) ⌝ }
+    requires { ⌜ (segments ≡ sum g (netOf l (now bytes) .segments)) × (curves ≡ count g (netOf l (now bytes) .piecewise)) ⌝ }
+    ensures { λ r. ⌜ Stands (netOf l (now (bytes .entry))) (Segment g t) r ⌝ }
 {
     let r = l.n + l.m + l.k + segments + t;
     let row = segment_base(l) + (segments + t) as u32;

@@ -23,8 +23,8 @@ use records::inner::g_to;
 ghost use mathlib.Core.Path.{_≡_};
 ghost use Prim.Native.Nat.{_<_};
 ghost use Rattle.numbering.specs.Layout.{InRange};
+ghost use Rattle.numbering.specs.Laid.{netOf, Laid};
 ghost use Rattle.numbering.specs.declared.RowName.the-variants.{OhmPf, OhmQf, OhmPt, OhmQt};
-ghost use Rattle.lines.specs.Line.{Network, networkIn};
 ghost use Rattle.lines.specs.Ohm.{ohmOf, OhmStands};
 
 fn ohm(
@@ -54,9 +54,9 @@ fn ohm(
 }
 
 pub fn ohm_pf(l: SocWrLayout, bytes: &[u8], e: usize) -> Ohm
-    requires { ⌜ Network l (now bytes) ⌝ }
+    requires { ⌜ Laid l (now bytes) ⌝ }
     requires { ⌜ e < l .m ⌝ }
-    ensures { λ r. ⌜ OhmStands (networkIn l (now (bytes .entry))) (OhmPf e) r ⌝ }
+    ensures { λ r. ⌜ OhmStands (netOf l (now (bytes .entry))) (OhmPf e) r ⌝ }
 {
     let r = l.n + e;
     let t = series(bytes, r);
@@ -69,9 +69,9 @@ pub fn ohm_pf(l: SocWrLayout, bytes: &[u8], e: usize) -> Ohm
 }
 
 pub fn ohm_qf(l: SocWrLayout, bytes: &[u8], e: usize) -> Ohm
-    requires { ⌜ Network l (now bytes) ⌝ }
+    requires { ⌜ Laid l (now bytes) ⌝ }
     requires { ⌜ e < l .m ⌝ }
-    ensures { λ r. ⌜ OhmStands (networkIn l (now (bytes .entry))) (OhmQf e) r ⌝ }
+    ensures { λ r. ⌜ OhmStands (netOf l (now (bytes .entry))) (OhmQf e) r ⌝ }
 {
     let r = l.n + e;
     let t = series(bytes, r);
@@ -84,9 +84,9 @@ pub fn ohm_qf(l: SocWrLayout, bytes: &[u8], e: usize) -> Ohm
 }
 
 pub fn ohm_pt(l: SocWrLayout, bytes: &[u8], e: usize) -> Ohm
-    requires { ⌜ Network l (now bytes) ⌝ }
+    requires { ⌜ Laid l (now bytes) ⌝ }
     requires { ⌜ e < l .m ⌝ }
-    ensures { λ r. ⌜ OhmStands (networkIn l (now (bytes .entry))) (OhmPt e) r ⌝ }
+    ensures { λ r. ⌜ OhmStands (netOf l (now (bytes .entry))) (OhmPt e) r ⌝ }
 {
     let r = l.n + e;
     let t = series(bytes, r);
@@ -99,9 +99,9 @@ pub fn ohm_pt(l: SocWrLayout, bytes: &[u8], e: usize) -> Ohm
 }
 
 pub fn ohm_qt(l: SocWrLayout, bytes: &[u8], e: usize) -> Ohm
-    requires { ⌜ Network l (now bytes) ⌝ }
+    requires { ⌜ Laid l (now bytes) ⌝ }
     requires { ⌜ e < l .m ⌝ }
-    ensures { λ r. ⌜ OhmStands (networkIn l (now (bytes .entry))) (OhmQt e) r ⌝ }
+    ensures { λ r. ⌜ OhmStands (netOf l (now (bytes .entry))) (OhmQt e) r ⌝ }
 {
     let r = l.n + e;
     let t = series(bytes, r);

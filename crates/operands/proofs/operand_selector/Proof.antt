@@ -3,7 +3,7 @@ use borrow.Author.Needs.{needs}
 use mathlib.Core.Path.{_≡_, sym, ap, _∙_}
 use Rattle.refusals.proofs.Laws.{accepted-by, refused-by}
 use Rattle.records.proofs.Laws.{accepted}
-use Rattle.solution.proofs.Laid.{laid}
+use Rattle.numbering.proofs.Laid.{laid}
 use Rattle.solution.proofs.Entry.{left-first, then-second}
 use Rattle.operands.proofs.Answers.{selected-first}
 use Rattle.operands.proofs.operand_selector.Statement.{statement}

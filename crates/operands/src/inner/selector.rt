@@ -33,7 +33,7 @@ ghost use Rattle.lists.specs.UpTo.{listed, overlay};
 ghost use Rattle.refusals.specs.Refusals.{leftIn};
 ghost use Rattle.interface.specs.Selectors.{unitStarts, unitWeights};
 ghost use Rattle.numbering.specs.Layout.{InRange, layoutColumn};
-ghost use Rattle.solution.specs.Laid.{netOf, Laid};
+ghost use Rattle.numbering.specs.Laid.{netOf, Laid};
 ghost use Rattle.elements.specs.Lengths.{hasOperand, operandLen, voltageLen};
 ghost use Rattle.operands.specs.Selector.{dispatchColumn, flowOf, voltageAt, selectorRow, selectorRows, selectorElements, selectorSign, roomCause, operandCause, selectedIf};
 

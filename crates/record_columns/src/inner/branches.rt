@@ -19,8 +19,8 @@ ghost use Rattle.lists.specs.UpTo as UpTo;
 ghost use Rattle.lists.specs.UpTo.{listed, count};
 ghost use Rattle.lists.specs.Compressed.{cellOut, WroteCells};
 ghost use Rattle.numbering.specs.Numbering.{rowNumber};
+ghost use Rattle.numbering.specs.Laid.{netOf, Laid};
 ghost use Rattle.matrix.specs.Columns.{wrCells, wiCells, flowCells, balanceRow, thermalPlace};
-ghost use Rattle.cells.specs.Ready.{Ready, netOf};
 ghost use Rattle.coefficients.specs.Ohm.{rowKind};
 ghost use Rattle.cells.specs.Columns.{Columns};
 ghost use Rattle.record_columns.specs.Writers.{wrAngles, products, flow};
@@ -35,7 +35,7 @@ fn put_products(
     e: usize,
     p: Products,
 ) -> usize
-    requires { ⌜ Ready l (now bytes) ⌝ }
+    requires { ⌜ Laid l (now bytes) ⌝ }
     requires { ⌜ (e < l .m) × (at < 1000000) ⌝ }
     ensures { λ x. ⌜ WroteCells (products (netOf l (now (bytes .entry))) e p) (cellOut (now (rows .entry)) (now (vals .entry)) at) (cellOut (now (rows .exit)) (now (vals .exit)) x) ⌝ }
     ensures { λ x. ⌜ x ≤ at + 4 ⌝ }
@@ -59,7 +59,7 @@ fn put_wr_angles(
     bytes: &[u8],
     e: usize,
 ) -> usize
-    requires { ⌜ Ready l (now bytes) ⌝ }
+    requires { ⌜ Laid l (now bytes) ⌝ }
     requires { ⌜ (e < l .m) × (at < 1100000) ⌝ }
     ensures { λ x. ⌜ WroteCells (wrAngles (netOf l (now (bytes .entry))) e) (cellOut (now (rows .entry)) (now (vals .entry)) at) (cellOut (now (rows .exit)) (now (vals .exit)) x) ⌝ }
     ensures { λ x. ⌜ x ≤ at + 2 ⌝ }
@@ -84,7 +84,7 @@ fn put_wr(
     bytes: &[u8],
     e: usize,
 ) -> usize
-    requires { ⌜ Ready l (now bytes) ⌝ }
+    requires { ⌜ Laid l (now bytes) ⌝ }
     requires { ⌜ (e < l .m) × (at < 1000000) ⌝ }
     ensures { λ x. ⌜ WroteCells (wrCells (netOf l (now (bytes .entry))) e) (cellOut (now (rows .entry)) (now (vals .entry)) at) (cellOut (now (rows .exit)) (now (vals .exit)) x) ⌝ }
     ensures { λ x. ⌜ x ≤ at + 7 ⌝ }
@@ -105,7 +105,7 @@ fn put_wi(
     bytes: &[u8],
     e: usize,
 ) -> usize
-    requires { ⌜ Ready l (now bytes) ⌝ }
+    requires { ⌜ Laid l (now bytes) ⌝ }
     requires { ⌜ (e < l .m) × (at < 1000000) ⌝ }
     ensures { λ x. ⌜ WroteCells (wiCells (netOf l (now (bytes .entry))) e) (cellOut (now (rows .entry)) (now (vals .entry)) at) (cellOut (now (rows .exit)) (now (vals .exit)) x) ⌝ }
     ensures { λ x. ⌜ x ≤ at + 7 ⌝ }
@@ -129,7 +129,7 @@ pub fn put_wrs(
     l: SocWrLayout,
     bytes: &[u8],
 ) -> usize
-    requires { ⌜ Ready l (now bytes) ⌝ }
+    requires { ⌜ Laid l (now bytes) ⌝ }
     requires { ⌜ at < 600000 ⌝ }
     ensures { λ x. ⌜ Columns (listed (l .m) (wrCells (netOf l (now (bytes .entry))))) (2 * l .k + l .n) (now (starts .entry)) (cellOut (now (rows .entry)) (now (vals .entry)) at) (now (starts .exit)) (cellOut (now (rows .exit)) (now (vals .exit)) x) ⌝ }
     ensures { λ x. ⌜ x ≤ at + 7 * l .m ⌝ }
@@ -154,7 +154,7 @@ pub fn put_wis(
     l: SocWrLayout,
     bytes: &[u8],
 ) -> usize
-    requires { ⌜ Ready l (now bytes) ⌝ }
+    requires { ⌜ Laid l (now bytes) ⌝ }
     requires { ⌜ at < 600000 ⌝ }
     ensures { λ x. ⌜ Columns (listed (l .m) (wiCells (netOf l (now (bytes .entry))))) (2 * l .k + l .n + l .m) (now (starts .entry)) (cellOut (now (rows .entry)) (now (vals .entry)) at) (now (starts .exit)) (cellOut (now (rows .exit)) (now (vals .exit)) x) ⌝ }
     ensures { λ x. ⌜ x ≤ at + 7 * l .m ⌝ }
@@ -173,7 +173,7 @@ pub fn put_wis(
 
 // The balance row that a flow leaves by, and its place among a limited branch's rows.
 fn balance_row(q: OhmRow, l: SocWrLayout, bytes: &[u8], i: usize) -> u32
-    requires { ⌜ Ready l (now bytes) ⌝ }
+    requires { ⌜ Laid l (now bytes) ⌝ }
     requires { ⌜ i < l .n ⌝ }
     ensures { λ r. ⌜ r ≡ rowNumber (netOf l (now (bytes .entry))) (balanceRow (rowKind q) i) ⌝ }
 {
@@ -226,7 +226,7 @@ fn put_flow(
     e: usize,
     rank: usize,
 ) -> usize
-    requires { ⌜ Ready l (now bytes) ⌝ }
+    requires { ⌜ Laid l (now bytes) ⌝ }
     requires { ⌜ (e < l .m) × (at < 1000000) ⌝ }
     requires { ⌜ (rank ≡ count e (netOf l (now bytes) .limited)) × (rank ≤ e) ⌝ }
     ensures { λ x. ⌜ WroteCells (flowCells (netOf l (now (bytes .entry))) (rowKind q) e) (cellOut (now (rows .entry)) (now (vals .entry)) at) (cellOut (now (rows .exit)) (now (vals .exit)) x) ⌝ }
@@ -261,7 +261,7 @@ pub fn put_flows(
     bytes: &[u8],
     q: OhmRow,
 ) -> usize
-    requires { ⌜ Ready l (now bytes) ⌝ }
+    requires { ⌜ Laid l (now bytes) ⌝ }
     requires { ⌜ (at < 900000) × (col < 900000) ⌝ }
     ensures { λ x. ⌜ Columns (listed (l .m) (flowCells (netOf l (now (bytes .entry))) (rowKind q))) col (now (starts .entry)) (cellOut (now (rows .entry)) (now (vals .entry)) at) (now (starts .exit)) (cellOut (now (rows .exit)) (now (vals .exit)) x) ⌝ }
     ensures { λ x. ⌜ x ≤ at + 3 * l .m ⌝ }

@@ -11,9 +11,9 @@ ghost use Rattle.lists.specs.UpTo as UpTo;
 ghost use Rattle.lists.specs.UpTo.{each, listed, when, sum};
 ghost use Rattle.lists.specs.Compressed.{cellOut, WroteCells};
 ghost use Rattle.matrix.specs.Columns.{pgCells, qgCells};
-ghost use Rattle.cells.specs.Ready.{Ready, netOf};
 ghost use Rattle.cells.specs.Columns.{Columns};
 ghost use Rattle.record_columns.specs.Writers.{bounds, slopes, pgHead, ones, costTurn};
+ghost use Rattle.numbering.specs.Laid.{netOf, Laid};
 
 // The rows of an upper and a lower bound, where they are active.
 pub fn put_bounds(
@@ -69,7 +69,7 @@ fn put_pg_head(
     bytes: &[u8],
     g: usize,
 ) -> usize
-    requires { ⌜ Ready l (now bytes) ⌝ }
+    requires { ⌜ Laid l (now bytes) ⌝ }
     requires { ⌜ (g < l .k) × (at < 1000000) ⌝ }
     ensures { λ x. ⌜ WroteCells (pgHead (netOf l (now (bytes .entry))) g) (cellOut (now (rows .entry)) (now (vals .entry)) at) (cellOut (now (rows .exit)) (now (vals .exit)) x) ⌝ }
     ensures { λ x. ⌜ x ≤ at + 3 ⌝ }
@@ -92,7 +92,7 @@ fn put_qg(
     bytes: &[u8],
     g: usize,
 ) -> usize
-    requires { ⌜ Ready l (now bytes) ⌝ }
+    requires { ⌜ Laid l (now bytes) ⌝ }
     requires { ⌜ (g < l .k) × (at < 1000000) ⌝ }
     ensures { λ x. ⌜ WroteCells (qgCells (netOf l (now (bytes .entry))) g) (cellOut (now (rows .entry)) (now (vals .entry)) at) (cellOut (now (rows .exit)) (now (vals .exit)) x) ⌝ }
     ensures { λ x. ⌜ x ≤ at + 3 ⌝ }
@@ -118,7 +118,7 @@ fn put_pg(
     seg: usize,
     count: usize,
 ) -> usize
-    requires { ⌜ Ready l (now bytes) ⌝ }
+    requires { ⌜ Laid l (now bytes) ⌝ }
     requires { ⌜ (g < l .k) × (at < 1000000) ⌝ }
     requires { ⌜ (seg ≡ sum g (netOf l (now bytes) .segments)) × (count ≡ netOf l (now bytes) .segments g) ⌝ }
     ensures { λ x. ⌜ WroteCells (pgCells (netOf l (now (bytes .entry))) g) (cellOut (now (rows .entry)) (now (vals .entry)) at) (cellOut (now (rows .exit)) (now (vals .exit)) x) ⌝ }
@@ -139,7 +139,7 @@ pub fn put_pgs(
     l: SocWrLayout,
     bytes: &[u8],
 ) -> usize
-    requires { ⌜ Ready l (now bytes) ⌝ }
+    requires { ⌜ Laid l (now bytes) ⌝ }
     requires { ⌜ at ≡ 0 ⌝ }
     ensures { λ x. ⌜ Columns (listed (l .k) (pgCells (netOf l (now (bytes .entry))))) 0 (now (starts .entry)) (cellOut (now (rows .entry)) (now (vals .entry)) at) (now (starts .exit)) (cellOut (now (rows .exit)) (now (vals .exit)) x) ⌝ }
     ensures { λ x. ⌜ x ≤ 3 * l .k + l .s ⌝ }
@@ -168,7 +168,7 @@ pub fn put_qgs(
     l: SocWrLayout,
     bytes: &[u8],
 ) -> usize
-    requires { ⌜ Ready l (now bytes) ⌝ }
+    requires { ⌜ Laid l (now bytes) ⌝ }
     requires { ⌜ at < 900000 ⌝ }
     ensures { λ x. ⌜ Columns (listed (l .k) (qgCells (netOf l (now (bytes .entry))))) (l .k) (now (starts .entry)) (cellOut (now (rows .entry)) (now (vals .entry)) at) (now (starts .exit)) (cellOut (now (rows .exit)) (now (vals .exit)) x) ⌝ }
     ensures { λ x. ⌜ x ≤ at + 3 * l .k ⌝ }
@@ -241,7 +241,7 @@ pub fn put_costs(
     l: SocWrLayout,
     bytes: &[u8],
 ) -> usize
-    requires { ⌜ Ready l (now bytes) ⌝ }
+    requires { ⌜ Laid l (now bytes) ⌝ }
     requires { ⌜ at < 900000 ⌝ }
     ensures { λ x. ⌜ Columns (each (l .k) (costTurn (netOf l (now (bytes .entry))))) (2 * l .k + l .n + 6 * l .m) (now (starts .entry)) (cellOut (now (rows .entry)) (now (vals .entry)) at) (now (starts .exit)) (cellOut (now (rows .exit)) (now (vals .exit)) x) ⌝ }
     ensures { λ x. ⌜ x ≤ at + l .s ⌝ }

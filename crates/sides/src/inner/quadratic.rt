@@ -8,14 +8,14 @@ ghost use Prim.Native.Nat.{_+_, _≤_, _<_};
 ghost use Rattle.lists.specs.UpTo.{listed};
 ghost use Rattle.lists.specs.Compressed.{cellOut};
 ghost use Rattle.matrix.specs.Lists.{quadraticMatrix};
-ghost use Rattle.cells.specs.Ready.{Ready, netOf};
 ghost use Rattle.cells.specs.Filled.{Filled};
 ghost use Rattle.cells.specs.Columns.{Columns, Whole};
 ghost use Rattle.sides.specs.Quadratic.{quadCells, quadCount};
+ghost use Rattle.numbering.specs.Laid.{netOf, Laid};
 
 // How many entries P has.
 pub fn count_p(l: SocWrLayout, bytes: &[u8]) -> usize
-    requires { ⌜ Ready l (now bytes) ⌝ }
+    requires { ⌜ Laid l (now bytes) ⌝ }
     ensures { λ r. ⌜ r ≡ quadCount l (now (bytes .entry)) (l .k) ⌝ }
 {
     let k = l.k;
@@ -36,7 +36,7 @@ fn put_quads(
     l: SocWrLayout,
     bytes: &[u8],
 ) -> usize
-    requires { ⌜ Ready l (now bytes) ⌝ }
+    requires { ⌜ Laid l (now bytes) ⌝ }
     ensures { λ x. ⌜ Columns (listed (l .k) (quadCells l (now (bytes .entry)))) 0 (now (starts .entry)) (cellOut (now (rows .entry)) (now (vals .entry)) 0) (now (starts .exit)) (cellOut (now (rows .exit)) (now (vals .exit)) x) ⌝ }
     ensures { λ x. ⌜ x ≤ l .k ⌝ }
 {
@@ -72,7 +72,7 @@ pub fn fill_p(
     l: SocWrLayout,
     bytes: &[u8],
 ) -> usize
-    requires { ⌜ Ready l (now bytes) ⌝ }
+    requires { ⌜ Laid l (now bytes) ⌝ }
     ensures { λ x. ⌜ Whole (quadraticMatrix (netOf l (now (bytes .entry)))) (now (starts .entry)) (now (rows .entry)) (now (vals .entry)) (now (starts .exit)) (now (rows .exit)) (now (vals .exit)) x ⌝ }
 {
     let k = l.k;

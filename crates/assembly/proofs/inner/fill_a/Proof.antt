@@ -5,13 +5,13 @@ use lib.ListN.{length-append}
 use denote.Ref.{now}
 use Rattle.lists.specs.UpTo.{listed}
 use Rattle.matrix.specs.Columns.{wCells}
-use Rattle.cells.specs.Ready.{netOf}
 use Rattle.assembly.specs.Parts.{generatorColumns}
 use Rattle.cells.proofs.Fills.{listed-length}
 use Rattle.cells.proofs.Ends.{columns-then}
 use Rattle.assembly.proofs.PartsOfA.{generators-length, matrix-parts}
 use Rattle.assembly.proofs.inner.fill_a.Statement.{statement}
 use Rattle.assembly.proofs.inner.fill_a.Tie as tie
+use Rattle.numbering.specs.Laid.{netOf}
 
 fill-buses-requires : tie.Need-fill-buses-requires
 fill-buses-requires c κs = (c .before .before .before .before .before .before .before .before .before .before .before .before .before .before .before .before .before .before .before .before .before .pre .0, (omega (arith, c .before .before .before .before .before .before .before .before .before .fill-generators .ensures .1, c .before .before .before .before .before .before .before .before .before .before .before .before .before .before .before .before .before .before .before .before .before .pre .0 .range .k-range, c .before .before .before .before .before .before .before .before .before .before .before .before .before .before .before .before .before .before .before .before .before .pre .0 .range .s-range), omega (arith, c .before .before .before .before .before .before .before .before .before .before .before .before .before .before .before .before .before .before .before .before .before .pre .1, c .before .before .before .before .before .before .before .before .before .before .before .before .before .before .before .store-u32 .kept .0, c .before .before .before .before .before .before .before .before .before .fill-generators .kept .0)))

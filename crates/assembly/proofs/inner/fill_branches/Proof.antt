@@ -3,12 +3,12 @@ use borrow.Author.Needs.{needs}
 use native.Mathlib.Omega.{arith}
 use lib.ListN.{length-append}
 use denote.Ref.{now}
-use Rattle.cells.specs.Ready.{netOf}
 use Rattle.assembly.specs.Parts.{productColumns, flowColumns, branchColumns}
 use Rattle.cells.proofs.Ends.{columns-then}
 use Rattle.assembly.proofs.PartsOfA.{products-length, flows-length}
 use Rattle.assembly.proofs.inner.fill_branches.Statement.{statement}
 use Rattle.assembly.proofs.inner.fill_branches.Tie as tie
+use Rattle.numbering.specs.Laid.{netOf}
 
 fill-flows-requires : tie.Need-fill-flows-requires
 fill-flows-requires c κs = (c .before .before .before .before .before .before .before .before .before .before .before .before .before .before .before .before .before .pre .0, omega (arith, c .before .before .before .before .before .before .before .before .before .fill-products .ensures .1, c .before .before .before .before .before .before .before .before .before .before .before .before .before .before .before .before .before .pre .1, c .before .before .before .before .before .before .before .before .before .before .before .before .before .before .before .before .before .pre .0 .range .m-range))

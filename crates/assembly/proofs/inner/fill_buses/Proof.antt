@@ -7,11 +7,11 @@ use denote.Ref.{now}
 use Rattle.lists.proofs.Compressed.{joined-listed}
 use Rattle.rows.specs.Rows.{w}
 use Rattle.matrix.specs.Columns.{wCells}
-use Rattle.cells.specs.Ready.{netOf}
 use Rattle.cells.proofs.Fills.{listed-length}
 use Rattle.assembly.proofs.PartsOfA.{part-columns}
 use Rattle.assembly.proofs.inner.fill_buses.Statement.{statement}
 use Rattle.assembly.proofs.inner.fill_buses.Tie as tie
+use Rattle.numbering.specs.Laid.{netOf}
 
 put-buses-requires : tie.Need-put-buses-requires
 put-buses-requires c κs = (c .before .before .before .before .before .before .before .before .before .pre .0, (simp (length-take, length-drop) (omega (arith, c .before .before .before .before .before .before .before .before .before .pre .1)), omega (arith, c .before .before .before .before .before .before .before .before .before .pre .1)))

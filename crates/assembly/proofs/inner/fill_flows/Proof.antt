@@ -8,12 +8,12 @@ use denote.Ref.{now}
 use Rattle.lists.specs.UpTo.{listed}
 use Rattle.rows.specs.Rows.{pf, qf, pt}
 use Rattle.matrix.specs.Columns.{flowCells}
-use Rattle.cells.specs.Ready.{netOf}
 use Rattle.assembly.specs.Parts.{flowColumns}
 use Rattle.cells.proofs.Fills.{listed-length}
 use Rattle.cells.proofs.Ends.{columns-then}
 use Rattle.assembly.proofs.inner.fill_flows.Statement.{statement}
 use Rattle.assembly.proofs.inner.fill_flows.Tie as tie
+use Rattle.numbering.specs.Laid.{netOf}
 
 put-flows-requires-2 : tie.Need-put-flows-requires-2
 put-flows-requires-2 c κs = (c .before .before .before .before .before .before .before .before .before .before .before .before .before .before .before .before .before .before .before .before .before .before .before .pre .0, (omega (arith, c .before .before .before .before .before .before .before .before .before .put-flows .ensures .1, c .before .before .before .before .before .before .before .before .before .before .before .before .before .before .before .before .before .before .before .before .before .before .before .pre .1, c .before .before .before .before .before .before .before .before .before .before .before .before .before .before .before .before .before .before .before .before .before .before .before .pre .0 .range .m-range), omega (arith, c .before .before .before .before .before .before .before .before .before .before .before .before .before .before .before .before .before .before .before .before .before .before .before .pre .0 .range .n-range, c .before .before .before .before .before .before .before .before .before .before .before .before .before .before .before .before .before .before .before .before .before .before .before .pre .0 .range .m-range, c .before .before .before .before .before .before .before .before .before .before .before .before .before .before .before .before .before .before .before .before .before .before .before .pre .0 .range .k-range)))

@@ -3,12 +3,12 @@ use borrow.Author.Needs.{needs}
 use native.Mathlib.Omega.{arith}
 use denote.Ref.{now}
 use Rattle.matrix.specs.Columns.{pgCells}
-use Rattle.cells.specs.Ready.{netOf}
 use Rattle.assembly.specs.Parts.{generatorColumns}
 use Rattle.cells.proofs.Fills.{listed-length}
 use Rattle.cells.proofs.Ends.{columns-then}
 use Rattle.assembly.proofs.inner.fill_generators.Statement.{statement}
 use Rattle.assembly.proofs.inner.fill_generators.Tie as tie
+use Rattle.numbering.specs.Laid.{netOf}
 
 put-qgs-requires : tie.Need-put-qgs-requires
 put-qgs-requires c κs = (c .before .before .before .before .before .before .before .before .before .before .before .before .before .before .before .before .before .pre .0, omega (arith, c .before .before .before .before .before .before .before .before .before .put-pgs .ensures .1, c .before .before .before .before .before .before .before .before .before .before .before .before .before .before .before .before .before .pre .0 .range .k-range, c .before .before .before .before .before .before .before .before .before .before .before .before .before .before .before .before .before .pre .0 .range .s-range))

@@ -3,12 +3,12 @@ use borrow.Author.Needs.{needs}
 use native.Mathlib.Omega.{arith}
 use denote.Ref.{now}
 use Rattle.matrix.specs.Columns.{wrCells}
-use Rattle.cells.specs.Ready.{netOf}
 use Rattle.assembly.specs.Parts.{productColumns}
 use Rattle.cells.proofs.Fills.{listed-length}
 use Rattle.cells.proofs.Ends.{columns-then}
 use Rattle.assembly.proofs.inner.fill_products.Statement.{statement}
 use Rattle.assembly.proofs.inner.fill_products.Tie as tie
+use Rattle.numbering.specs.Laid.{netOf}
 
 put-wis-requires : tie.Need-put-wis-requires
 put-wis-requires c κs = (c .before .before .before .before .before .before .before .before .before .before .before .before .before .before .before .before .before .pre .0, omega (arith, c .before .before .before .before .before .before .before .before .before .put-wrs .ensures .1, c .before .before .before .before .before .before .before .before .before .before .before .before .before .before .before .before .before .pre .1, c .before .before .before .before .before .before .before .before .before .before .before .before .before .before .before .before .before .pre .0 .range .m-range))

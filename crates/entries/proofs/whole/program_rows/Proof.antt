@@ -1,7 +1,6 @@
 -- `entries::whole::program_rows` meets its contract. Assumes nothing.
 use denote.Ref.{now}
 use Rattle.lists.specs.UpTo.{each}
-use Rattle.lines.specs.Line.{networkIn}
 use Rattle.dealing.proofs.Fills.{ahead-wrote, ahead-then, ahead-rows, ahead-cols, ahead-vals, ahead-covered, finished-then}
 use Rattle.entries.proofs.Rooms.{room-before, room-after, room-plain}
 use mathlib.Core.List.{_++_}
@@ -11,23 +10,24 @@ use Rattle.rows.specs.Program.{equalities, inequalities, secondOrder, everyRow,
 use Rattle.complementarity.specs.Writes.{rowIn, coneIn}
 use Rattle.entries.proofs.whole.program_rows.Statement.{statement}
 use Rattle.entries.proofs.whole.program_rows.Tie as tie
+use Rattle.numbering.specs.Laid.{netOf}
 
 equality-rows-requires : tie.Need-equality-rows-requires
 unfolding rowIn coneIn
 equality-rows-requires c κs =
-    let N = networkIn (c .before .before .before .before .before .before .before .before .before .args .l) (now (c .before .before .before .before .before .before .before .before .before .args .bytes)) in
-    (c .before .before .before .before .before .before .before .before .before .pre .0 .network, (room-before _ _ _ (equalities N (plainRow N)) (inequalities N (rowIn N (now (c .before .before .before .before .before .before .before .before .before .args .x)) (now (c .before .before .before .before .before .before .before .before .before .args .z)) false)) (room-before _ _ _ (equalities N (plainRow N) ++ inequalities N (rowIn N (now (c .before .before .before .before .before .before .before .before .before .args .x)) (now (c .before .before .before .before .before .before .before .before .before .args .z)) false)) (secondOrder N (coneIn N (now (c .before .before .before .before .before .before .before .before .before .args .x)) (now (c .before .before .before .before .before .before .before .before .before .args .z)) false)) (c .before .before .before .before .before .before .before .before .before .pre .1))))
+    let N = netOf (c .before .before .before .before .before .before .before .before .before .args .l) (now (c .before .before .before .before .before .before .before .before .before .args .bytes)) in
+    (c .before .before .before .before .before .before .before .before .before .pre .0 .laid, (room-before _ _ _ (equalities N (plainRow N)) (inequalities N (rowIn N (now (c .before .before .before .before .before .before .before .before .before .args .x)) (now (c .before .before .before .before .before .before .before .before .before .args .z)) false)) (room-before _ _ _ (equalities N (plainRow N) ++ inequalities N (rowIn N (now (c .before .before .before .before .before .before .before .before .before .args .x)) (now (c .before .before .before .before .before .before .before .before .before .args .z)) false)) (secondOrder N (coneIn N (now (c .before .before .before .before .before .before .before .before .before .args .x)) (now (c .before .before .before .before .before .before .before .before .before .args .z)) false)) (c .before .before .before .before .before .before .before .before .before .pre .1))))
 
 inequality-rows-requires : tie.Need-inequality-rows-requires
 unfolding rowIn coneIn
 inequality-rows-requires c κs =
-    let N = networkIn (c .before .before .before .before .before .before .before .before .before .before .before .before .before .before .before .before .before .before .before .args .l) (now (c .before .before .before .before .before .before .before .before .before .before .before .before .before .before .before .before .before .before .before .args .bytes)) in
+    let N = netOf (c .before .before .before .before .before .before .before .before .before .before .before .before .before .before .before .before .before .before .before .args .l) (now (c .before .before .before .before .before .before .before .before .before .before .before .before .before .before .before .before .before .before .before .args .bytes)) in
     (c .before .before .before .before .before .before .before .before .before .before .before .before .before .before .before .before .before .before .before .pre .0, (room-plain _ _ (inequalities N (rowIn N (now (c .before .before .before .before .before .before .before .before .before .before .before .before .before .before .before .before .before .before .before .args .x)) (now (c .before .before .before .before .before .before .before .before .before .before .before .before .before .before .before .before .before .before .before .args .z)) false)) (room-after (inequalities N (rowIn N (now (c .before .before .before .before .before .before .before .before .before .before .before .before .before .before .before .before .before .before .before .args .x)) (now (c .before .before .before .before .before .before .before .before .before .before .before .before .before .before .before .before .before .before .before .args .z)) false)) (c .before .before .before .before .before .before .before .before .before .equality-rows .ensures) (room-before _ _ _ (equalities N (plainRow N) ++ inequalities N (rowIn N (now (c .before .before .before .before .before .before .before .before .before .before .before .before .before .before .before .before .before .before .before .args .x)) (now (c .before .before .before .before .before .before .before .before .before .before .before .before .before .before .before .before .before .before .before .args .z)) false)) (secondOrder N (coneIn N (now (c .before .before .before .before .before .before .before .before .before .before .before .before .before .before .before .before .before .before .before .args .x)) (now (c .before .before .before .before .before .before .before .before .before .before .before .before .before .before .before .before .before .before .before .args .z)) false)) (c .before .before .before .before .before .before .before .before .before .before .before .before .before .before .before .before .before .before .before .pre .1)))))
 
 cone-rows-requires : tie.Need-cone-rows-requires
 unfolding rowIn coneIn
 cone-rows-requires c κs =
-    let N = networkIn (c .before .before .before .before .before .before .before .before .before .before .before .before .before .before .before .before .before .before .before .before .before .before .before .before .before .before .before .before .before .args .l) (now (c .before .before .before .before .before .before .before .before .before .before .before .before .before .before .before .before .before .before .before .before .before .before .before .before .before .before .before .before .before .args .bytes)) in
+    let N = netOf (c .before .before .before .before .before .before .before .before .before .before .before .before .before .before .before .before .before .before .before .before .before .before .before .before .before .before .before .before .before .args .l) (now (c .before .before .before .before .before .before .before .before .before .before .before .before .before .before .before .before .before .before .before .before .before .before .before .before .before .before .before .before .before .args .bytes)) in
     (c .before .before .before .before .before .before .before .before .before .before .before .before .before .before .before .before .before .before .before .before .before .before .before .before .before .before .before .before .before .pre .0, (room-plain _ _ (secondOrder N (coneIn N (now (c .before .before .before .before .before .before .before .before .before .before .before .before .before .before .before .before .before .before .before .before .before .before .before .before .before .before .before .before .before .args .x)) (now (c .before .before .before .before .before .before .before .before .before .before .before .before .before .before .before .before .before .before .before .before .before .before .before .before .before .before .before .before .before .args .z)) false)) (room-after (secondOrder N (coneIn N (now (c .before .before .before .before .before .before .before .before .before .before .before .before .before .before .before .before .before .before .before .before .before .before .before .before .before .before .before .before .before .args .x)) (now (c .before .before .before .before .before .before .before .before .before .before .before .before .before .before .before .before .before .before .before .before .before .before .before .before .before .before .before .before .before .args .z)) false)) (ahead-then (c .before .before .before .before .before .before .before .before .before .before .before .before .before .before .before .before .before .before .before .equality-rows .ensures) (ahead-wrote _ (c .before .before .before .before .before .before .before .before .before .inequality-rows .ensures))) (c .before .before .before .before .before .before .before .before .before .before .before .before .before .before .before .before .before .before .before .before .before .before .before .before .before .before .before .before .before .pre .1))))
 
 same-length : tie.Need-same-length

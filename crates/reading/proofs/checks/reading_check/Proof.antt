@@ -2,11 +2,11 @@
 use mathlib.Core.Path.{sym, _∙_}
 use Rattle.refusals.proofs.Laws.{stopped, went-on}
 use Rattle.reading.specs.Reading.{readingCheck}
-use Rattle.solution.proofs.Laid.{laid}
 use Rattle.reading.proofs.Readings.{went}
 use borrow.Author.Needs.{needs}
 use Rattle.reading.proofs.checks.reading_check.Statement.{statement}
 use Rattle.reading.proofs.checks.reading_check.Tie as tie
+use Rattle.numbering.proofs.Laid.{laid}
 
 returns : tie.Need-returns
 unfolding readingCheck

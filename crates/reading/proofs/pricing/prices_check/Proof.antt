@@ -3,12 +3,12 @@ use mathlib.Core.Path.{sym, _∙_, ap₂}
 use native.Mathlib.Omega.{arith}
 use Rattle.refusals.specs.Refusals.{_orElse_}
 use Rattle.refusals.proofs.Laws.{stopped, went-on}
-use Rattle.solution.proofs.Laid.{laid}
 use Rattle.reading.specs.Reading.{pricesCheck}
 use Rattle.reading.proofs.Readings.{went}
 use borrow.Author.Needs.{needs}
 use Rattle.reading.proofs.pricing.prices_check.Statement.{statement}
 use Rattle.reading.proofs.pricing.prices_check.Tie as tie
+use Rattle.numbering.proofs.Laid.{laid}
 
 returns : tie.Need-returns
 unfolding pricesCheck

@@ -1,9 +1,9 @@
 -- `solution::inner::x_cause` meets its contract. Assumes nothing.
 use borrow.Author.Needs.{needs}
 use Rattle.solution.specs.Lengths.{xCause}
-use Rattle.solution.proofs.Laid.{nvar-number}
 use Rattle.solution.proofs.inner.x_cause.Statement.{statement}
 use Rattle.solution.proofs.inner.x_cause.Tie as tie
+use Rattle.numbering.proofs.Laid.{nvar-number}
 
 returns : tie.Need-returns
 unfolding xCause

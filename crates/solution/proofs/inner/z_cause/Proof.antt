@@ -1,9 +1,9 @@
 -- `solution::inner::z_cause` meets its contract. Assumes nothing.
 use borrow.Author.Needs.{needs}
 use Rattle.solution.specs.Lengths.{zCause}
-use Rattle.solution.proofs.Laid.{ncon-number}
 use Rattle.solution.proofs.inner.z_cause.Statement.{statement}
 use Rattle.solution.proofs.inner.z_cause.Tie as tie
+use Rattle.numbering.proofs.Laid.{ncon-number}
 
 returns : tie.Need-returns
 unfolding zCause

@@ -4,11 +4,11 @@ use mathlib.Core.Path.{_≡_, _∙_, ap}
 use mathlib.Core.List.{List}
 use Rattle.admittance.specs.Stores.{Store, storedAll}
 use Rattle.admittance.specs.Places.{landedAll}
-use Rattle.solution.proofs.Laid.{nvar-number}
 use Rattle.admittance.proofs.Entries.{series-same}
 use Prim.Native.Nat.{_<_}
 use Rattle.admittance.proofs.inner.series.series_admittance.Statement.{statement}
 use Rattle.admittance.proofs.inner.series.series_admittance.Tie as tie
+use Rattle.numbering.proofs.Laid.{nvar-number}
 
 ohm-columns-requires : tie.Need-ohm-columns-requires
 ohm-columns-requires c κs =

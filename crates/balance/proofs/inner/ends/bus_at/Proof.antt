@@ -1,28 +1,27 @@
 -- `balance::inner::ends::bus_at` meets its contract. Assumes nothing.
 use mathlib.Core.Path.{_∙_}
-use Rattle.lines.proofs.Lines.{in-range}
 use borrow.Author.Needs.{needs}
 use native.Mathlib.Omega.{arith}
 use Rattle.balance.proofs.inner.ends.bus_at.Statement.{statement}
 use Rattle.balance.proofs.inner.ends.bus_at.Tie as tie
 
 add-gen-bus : tie.Need-add-gen-bus
-add-gen-bus c = let t = rw (c .before .enum-told .given .1) at (c .before .before .before .before .pre .1) in let u = in-range (c .before .before .before .before .pre .0) in omega arith
+add-gen-bus c = let t = rw (c .before .enum-told .given .1) at (c .before .before .before .before .pre .1) in let u = c .before .before .before .before .pre .0 .range in omega arith
 
 add-gen-bus-2 : tie.Need-add-gen-bus-2
-add-gen-bus-2 c = let t = rw (c .before .enum-told .given .1) at (c .before .before .before .before .pre .1) in let u = in-range (c .before .before .before .before .pre .0) in omega arith
+add-gen-bus-2 c = let t = rw (c .before .enum-told .given .1) at (c .before .before .before .before .pre .1) in let u = c .before .before .before .before .pre .0 .range in omega arith
 
 gen-bus-requires : tie.Need-gen-bus-requires
 gen-bus-requires c κs = let t = rw (c .before .enum-told .given .1) at (c .before .before .before .before .pre .1) in omega (arith, c .before .before .before .before .pre .0 .accepted .size)
 
 add-br-from : tie.Need-add-br-from
-add-br-from c = let t = rw (c .before .enum-told2 .given .1) at (c .before .before .before .before .pre .1) in let u = in-range (c .before .before .before .before .pre .0) in omega arith
+add-br-from c = let t = rw (c .before .enum-told2 .given .1) at (c .before .before .before .before .pre .1) in let u = c .before .before .before .before .pre .0 .range in omega arith
 
 br-from-requires : tie.Need-br-from-requires
 br-from-requires c κs = let t = rw (c .before .enum-told2 .given .1) at (c .before .before .before .before .pre .1) in omega (arith, c .before .before .before .before .pre .0 .accepted .size)
 
 add-br-to : tie.Need-add-br-to
-add-br-to c = let t = rw (c .before .enum-told3 .given .1) at (c .before .before .before .before .pre .1) in let u = in-range (c .before .before .before .before .pre .0) in omega arith
+add-br-to c = let t = rw (c .before .enum-told3 .given .1) at (c .before .before .before .before .pre .1) in let u = c .before .before .before .before .pre .0 .range in omega arith
 
 br-to-requires : tie.Need-br-to-requires
 br-to-requires c κs = let t = rw (c .before .enum-told3 .given .1) at (c .before .before .before .before .pre .1) in omega (arith, c .before .before .before .before .pre .0 .accepted .size)

@@ -1,15 +1,14 @@
 -- `blocks::inner::cones::jabr_row` meets its contract. Assumes nothing.
-use Rattle.lines.proofs.Lines.{in-range}
 use Rattle.complementarity.proofs.Laws.{cone-ready}
 use borrow.Author.Needs.{needs}
 use Rattle.blocks.proofs.inner.cones.jabr_row.Statement.{statement}
 use Rattle.blocks.proofs.inner.cones.jabr_row.Tie as tie
 
 jabr-requires : tie.Need-jabr-requires
-jabr-requires c κs = (c .before .before .before .before .before .before .pre .0 .network, c .before .before .before .before .before .before .pre .1 .0)
+jabr-requires c κs = (c .before .before .before .before .before .before .pre .0 .laid, c .before .before .before .before .before .before .pre .1 .0)
 
 nvar-requires : tie.Need-nvar-requires
-nvar-requires c κs = in-range (c .before .before .before .before .before .before .before .pre .0 .network)
+nvar-requires c κs = c .before .before .before .before .before .before .before .pre .0 .laid .range
 
 put-lines-requires : tie.Need-put-lines-requires
 put-lines-requires c κs = let q = cone-ready (c .before .before .before .before .before .before .before .before .before .before .before .pre .0) (c .before .before .before .nvar .ensures) (c .before .before .before .before .before .before .before .before .before .before .before .args .d) (c .before .before .before .before .jabr .ensures) in (q .within, (q .small, rw (q .same) (c .before .before .before .before .before .before .before .before .before .before .before .pre .1 .1)))

@@ -1,5 +1,4 @@
 -- `blocks::inner::cones::thermal_row` meets its contract. Assumes nothing.
-use Rattle.lines.proofs.Lines.{in-range}
 use Rattle.complementarity.proofs.Laws.{cone-ready}
 use Rattle.lists.proofs.Written.{then, pos, wrote-none, len-rows, len-cols, len-vals}
 use mathlib.Core.Path.{sym, _∙_}
@@ -11,13 +10,13 @@ use Rattle.blocks.proofs.inner.cones.thermal_row.Statement.{statement}
 use Rattle.blocks.proofs.inner.cones.thermal_row.Tie as tie
 
 nvar-requires : tie.Need-nvar-requires
-nvar-requires c κs = in-range (c .before .before .before .before .before .before .before .before .before .pre .0 .network)
+nvar-requires c κs = c .before .before .before .before .before .before .before .before .before .pre .0 .laid .range
 
 thermal-from-requires : tie.Need-thermal-from-requires
-thermal-from-requires c κs = (c .before .before .before .before .before .before .before .before .before .before .pre .0 .network, (c .before .before .before .before .before .before .before .before .before .before .pre .1 .0 .0, sym (c .before .before .thermal-limit-active .ensures) ∙ c .before .if1 .taken, c .before .before .before .before .before .before .before .before .before .before .pre .1 .0 .1))
+thermal-from-requires c κs = (c .before .before .before .before .before .before .before .before .before .before .pre .0 .laid, (c .before .before .before .before .before .before .before .before .before .before .pre .1 .0 .0, sym (c .before .before .thermal-limit-active .ensures) ∙ c .before .if1 .taken, c .before .before .before .before .before .before .before .before .before .before .pre .1 .0 .1))
 
 thermal-to-requires : tie.Need-thermal-to-requires
-thermal-to-requires c κs = (c .before .before .before .before .before .before .before .before .before .before .before .pre .0 .network, (c .before .before .before .before .before .before .before .before .before .before .before .pre .1 .0 .0, sym (c .before .before .before .thermal-limit-active .ensures) ∙ c .before .before .if1 .taken, c .before .before .before .before .before .before .before .before .before .before .before .pre .1 .0 .1))
+thermal-to-requires c κs = (c .before .before .before .before .before .before .before .before .before .before .before .pre .0 .laid, (c .before .before .before .before .before .before .before .before .before .before .before .pre .1 .0 .0, sym (c .before .before .before .thermal-limit-active .ensures) ∙ c .before .before .if1 .taken, c .before .before .before .before .before .before .before .before .before .before .before .pre .1 .0 .1))
 
 put-lines-requires : tie.Need-put-lines-requires
 unfolding thermalIn

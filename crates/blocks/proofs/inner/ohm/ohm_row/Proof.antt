@@ -1,12 +1,11 @@
 -- `blocks::inner::ohm::ohm_row` meets its contract. Assumes nothing.
-use Rattle.lines.proofs.Lines.{in-range}
 use Rattle.blocks.proofs.Laws.{ohm-same}
 use borrow.Author.Needs.{needs}
 use Rattle.blocks.proofs.inner.ohm.ohm_row.Statement.{statement}
 use Rattle.blocks.proofs.inner.ohm.ohm_row.Tie as tie
 
 nvar-requires : tie.Need-nvar-requires
-nvar-requires c κs = in-range (c .before .before .before .before .before .pre .0)
+nvar-requires c κs = c .before .before .before .before .before .pre .0 .range
 
 add-r : tie.Need-add-r
 add-r c = record { fits = ohm-same (c .before .before .before .before .before .before .before .pre .0) (c .before .nvar .ensures) (c .before .before .ohm-line .ensures) .0 }

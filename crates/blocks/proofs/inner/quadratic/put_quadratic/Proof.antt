@@ -7,7 +7,6 @@ use Rattle.lists.proofs.Written.{no-turn, turn, len-rows, len-cols, len-vals}
 use Rattle.complementarity.proofs.Rooms.{room-turn}
 use denote.Ref.{now}
 use Rattle.rows.specs.Program.{quadratic}
-use Rattle.lines.proofs.Lines.{in-range}
 use Rattle.blocks.proofs.Laws.{diagonalAt}
 use borrow.Author.Needs.{needs}
 use native.Mathlib.Omega.{arith}
@@ -21,16 +20,16 @@ abbrev μ-loop : tie.MeasureT-loop
 μ-loop rows₀ cols₀ vals₀ at l bytes next₀ g₀ rows cols vals next g = l .k - g
 
 add-cq : tie.Need-add-cq Inv-loop μ-loop
-add-cq c = let q = in-range (c .before .before .before .before .before .before .before .before .pre .0) in omega arith
+add-cq c = let q = c .before .before .before .before .before .before .before .before .pre .0 .range in omega arith
 
 add-cq-2 : tie.Need-add-cq-2 Inv-loop μ-loop
-add-cq-2 c = let q = in-range (c .before .before .before .before .before .before .before .before .pre .0) in omega arith
+add-cq-2 c = let q = c .before .before .before .before .before .before .before .before .pre .0 .range in omega arith
 
 cq-requires : tie.Need-cq-requires Inv-loop μ-loop
 cq-requires c κs = omega (arith, c .before .before .before .before .before .before .before .before .pre .0 .accepted .size)
 
 col-pg-requires : tie.Need-col-pg-requires Inv-loop μ-loop
-col-pg-requires c κs = (in-range (c .before .before .before .before .before .before .before .before .before .pre .0), c .before .before .if1 .taken)
+col-pg-requires c κs = (c .before .before .before .before .before .before .before .before .before .pre .0 .range, c .before .before .if1 .taken)
 
 put-if-requires : tie.Need-put-if-requires Inv-loop μ-loop
 unfolding quadratic

@@ -1,15 +1,14 @@
 -- `blocks::inner::segments::segment_row` meets its contract. Assumes nothing.
-use Rattle.lines.proofs.Lines.{in-range}
 use Rattle.complementarity.proofs.Laws.{ready}
 use borrow.Author.Needs.{needs}
 use Rattle.blocks.proofs.inner.segments.segment_row.Statement.{statement}
 use Rattle.blocks.proofs.inner.segments.segment_row.Tie as tie
 
 segment-requires : tie.Need-segment-requires
-segment-requires c κs = (c .before .before .before .before .before .before .pre .0 .network, (c .before .before .before .before .before .before .pre .1 .0, c .before .before .before .before .before .before .pre .1 .1 .0))
+segment-requires c κs = (c .before .before .before .before .before .before .pre .0 .laid, (c .before .before .before .before .before .before .pre .1 .0, c .before .before .before .before .before .before .pre .1 .1 .0))
 
 nvar-requires : tie.Need-nvar-requires
-nvar-requires c κs = in-range (c .before .before .before .before .before .before .before .pre .0 .network)
+nvar-requires c κs = c .before .before .before .before .before .before .before .pre .0 .laid .range
 
 put-row-requires : tie.Need-put-row-requires
 put-row-requires c κs = let q = ready (c .before .before .before .before .before .before .before .before .before .before .before .pre .0) (c .before .before .before .nvar .ensures) (c .before .before .before .before .before .before .before .before .before .before .before .args .d) (c .before .before .before .before .segment .ensures) in (q .within, (q .small, rw (q .same) (c .before .before .before .before .before .before .before .before .before .before .before .pre .1 .1 .1)))

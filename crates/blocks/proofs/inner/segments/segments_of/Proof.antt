@@ -5,29 +5,28 @@ use Rattle.lists.specs.UpTo.{each}
 use Rattle.lists.specs.Out.{out, Wrote}
 use Rattle.lists.proofs.Written.{no-turn, turn, len-rows, len-cols, len-vals}
 use Rattle.complementarity.proofs.Rooms.{room-turn}
-use Rattle.lines.specs.Line.{networkIn}
 use Rattle.complementarity.specs.Writes.{rowIn}
 use Rattle.numbering.specs.declared.RowName.the-variants.{Segment}
-use Rattle.lines.proofs.Lines.{in-range}
+use Rattle.numbering.specs.Laid.{netOf}
 use borrow.Author.Needs.{needs}
 use native.Mathlib.Omega.{arith}
 use Rattle.blocks.proofs.inner.segments.segments_of.Statement.{statement}
 use Rattle.blocks.proofs.inner.segments.segments_of.Tie as tie
 
 abbrev Inv-loop : tie.InvT-loop
-Inv-loop rows₀ cols₀ vals₀ at l bytes x z d g before curves r n next₀ t₀ rows cols vals next t = (t ≤ n) × Wrote (each t (λ t. rowIn (networkIn l bytes) x z d (Segment g t))) (out rows₀ cols₀ vals₀ at) (out rows cols vals next)
+Inv-loop rows₀ cols₀ vals₀ at l bytes x z d g before curves r n next₀ t₀ rows cols vals next t = (t ≤ n) × Wrote (each t (λ t. rowIn (netOf l bytes) x z d (Segment g t))) (out rows₀ cols₀ vals₀ at) (out rows cols vals next)
 
 abbrev μ-loop : tie.MeasureT-loop
 μ-loop rows₀ cols₀ vals₀ at l bytes x z d g before curves r n next₀ t₀ rows cols vals next t = n - t
 
 add-r : tie.Need-add-r Inv-loop μ-loop
-add-r c = let q = in-range (c .before .before .before .before .before .before .before .pre .0 .network) in omega arith
+add-r c = let q = c .before .before .before .before .before .before .before .pre .0 .laid .range in omega arith
 
 add-r-2 : tie.Need-add-r-2 Inv-loop μ-loop
-add-r-2 c = let q = in-range (c .before .before .before .before .before .before .before .pre .0 .network) in omega arith
+add-r-2 c = let q = c .before .before .before .before .before .before .before .pre .0 .laid .range in omega arith
 
 segments-requires : tie.Need-segments-requires Inv-loop μ-loop
-segments-requires c κs = omega (arith, c .before .before .before .before .before .before .before .pre .0 .network .accepted .size)
+segments-requires c κs = omega (arith, c .before .before .before .before .before .before .before .pre .0 .laid .accepted .size)
 
 segment-row-requires : tie.Need-segment-row-requires Inv-loop μ-loop
 segment-row-requires c κs = let t = rw (c .before .before .before .before .before .segments .ensures .0) at (c .before .before .before .loop-test .taken) in (c .before .before .before .before .before .before .before .before .before .before .before .before .before .pre .0, ((c .before .before .before .before .before .before .before .before .before .before .before .before .before .pre .1 .0, t), (c .before .before .before .before .before .before .before .before .before .before .before .before .before .pre .1 .1 .0, room-turn _ _ _ (c .before .before .before .before .loop .inv .1) t (c .before .before .before .before .before .before .before .before .before .before .before .before .before .pre .1 .1 .1))))

@@ -1,8 +1,8 @@
 -- `columns::inner::column::dim` meets its contract. Assumes nothing.
 use borrow.Author.Needs.{needs}
-use Rattle.solution.proofs.Laid.{nvar-number, ncon-number}
 use Rattle.columns.proofs.inner.column.dim.Statement.{statement}
 use Rattle.columns.proofs.inner.column.dim.Tie as tie
+use Rattle.numbering.proofs.Laid.{nvar-number, ncon-number}
 
 returns : tie.Need-returns
 returns c = cc (nvar-number (c .before .before .before .args .l) (c .before .before .before .args .bytes .now) (c .before .before .before .pre), ncon-number (c .before .before .before .args .l) (c .before .before .before .args .bytes .now) (c .before .before .before .pre))

@@ -2,12 +2,12 @@
 use borrow.Author.Needs.{needs}
 use mathlib.Core.Path.{_≡_, sym, _∙_, ap}
 use mathlib.Core.List.{List}
-use Rattle.solution.specs.Laid.{netOf}
 use Rattle.admittance.specs.Stores.{Store, storedAll}
 use Rattle.columns.proofs.Limit.{limit-same, no-limit}
-use Rattle.solution.proofs.Laid.{nvar-number}
 use Rattle.columns.proofs.inner.limit.line_limit.Statement.{statement}
 use Rattle.columns.proofs.inner.limit.line_limit.Tie as tie
+use Rattle.numbering.specs.Laid.{netOf}
+use Rattle.numbering.proofs.Laid.{nvar-number}
 
 nvar-requires : tie.Need-nvar-requires
 nvar-requires c κs = c .before .before .before .before .before .before .pre .0 .range

@@ -1,14 +1,14 @@
 -- `lines::inner::buses::wlb` meets its contract. Assumes nothing.
-use Rattle.lines.proofs.Lines.{in-range, wlb-stands}
+use Rattle.lines.proofs.Lines.{wlb-stands}
 use borrow.Author.Needs.{needs}
 use Rattle.lines.proofs.inner.buses.wlb.Statement.{statement}
 use Rattle.lines.proofs.inner.buses.wlb.Tie as tie
 
 r-wlb-requires : tie.Need-r-wlb-requires
-r-wlb-requires c κs = (in-range (c .before .before .before .before .pre .0), c .before .before .before .before .pre .1)
+r-wlb-requires c κs = (c .before .before .before .before .pre .0 .range, c .before .before .before .before .pre .1)
 
 col-w-requires : tie.Need-col-w-requires
-col-w-requires c κs = (in-range (c .before .before .before .before .before .pre .0), c .before .before .before .before .before .pre .1)
+col-w-requires c κs = (c .before .before .before .before .before .pre .0 .range, c .before .before .before .before .before .pre .1)
 
 returns : tie.Need-returns
 returns c = rw (c .single .ensures, c .before .before .r-wlb .ensures, c .before .col-w .ensures, c .before .before .before .pick .ensures, c .before .before .before .before .before .voltage-bound-active .ensures, c .before .before .before .before .vm-min .ensures) (wlb-stands _ _ (c .before .before .before .before .before .before .before .pre .0) _ (c .before .before .before .before .before .before .before .pre .1))

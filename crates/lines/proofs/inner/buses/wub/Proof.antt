@@ -1,4 +1,4 @@
-use Rattle.lines.proofs.Lines.{in-range, wub-stands}
+use Rattle.lines.proofs.Lines.{wub-stands}
 use borrow.Author.Needs.{needs}
 use Rattle.lines.proofs.inner.buses.wub.Statement.{statement}
 use Rattle.lines.proofs.inner.buses.wub.Tie as tie
@@ -25,11 +25,11 @@ pick-requires c κs = search needs
 
 -- src/inner/buses.rt:19:12
 r-wub-requires : tie.Need-r-wub-requires
-r-wub-requires c κs = (in-range (c .before .before .before .before .pre .0), c .before .before .before .before .pre .1)
+r-wub-requires c κs = (c .before .before .before .before .pre .0 .range, c .before .before .before .before .pre .1)
 
 -- src/inner/buses.rt:19:34
 col-w-requires : tie.Need-col-w-requires
-col-w-requires c κs = (in-range (c .before .before .before .before .before .pre .0), c .before .before .before .before .before .pre .1)
+col-w-requires c κs = (c .before .before .before .before .before .pre .0 .range, c .before .before .before .before .before .pre .1)
 
 -- src/inner/buses.rt:19:5
 single-requires : tie.Need-single-requires

@@ -1,15 +1,15 @@
 -- `lines::inner::cones::ends` meets its contract. Assumes nothing.
-use Rattle.lines.proofs.Lines.{in-range, ends-up, ends-down}
+use Rattle.lines.proofs.Lines.{ends-up, ends-down}
 use borrow.Author.Needs.{needs}
 use native.Mathlib.Omega.{arith}
 use Rattle.lines.proofs.inner.cones.ends.Statement.{statement}
 use Rattle.lines.proofs.inner.cones.ends.Tie as tie
 
 col-w-requires : tie.Need-col-w-requires
-col-w-requires c κs = (in-range (c .before .before .before .before .before .before .pre .0), omega (arith, c .before .before .wide .ensures, c .before .before .before .br-from .ensures, c .before .before .before .before .before .before .pre .0 .accepted .from-below _ (c .before .before .before .before .before .before .pre .1)))
+col-w-requires c κs = (c .before .before .before .before .before .before .pre .0 .range, omega (arith, c .before .before .wide .ensures, c .before .before .before .br-from .ensures, c .before .before .before .before .before .before .pre .0 .accepted .from-below _ (c .before .before .before .before .before .before .pre .1)))
 
 col-w-requires-2 : tie.Need-col-w-requires-2
-col-w-requires-2 c κs = (in-range (c .before .before .before .before .before .before .before .before .pre .0), omega (arith, c .before .before .wide2 .ensures, c .before .before .before .br-to .ensures, c .before .before .before .before .before .before .before .before .pre .0 .accepted .to-below _ (c .before .before .before .before .before .before .before .before .pre .1)))
+col-w-requires-2 c κs = (c .before .before .before .before .before .before .before .before .pre .0 .range, omega (arith, c .before .before .wide2 .ensures, c .before .before .before .br-to .ensures, c .before .before .before .before .before .before .before .before .pre .0 .accepted .to-below _ (c .before .before .before .before .before .before .before .before .pre .1)))
 
 returns : tie.Need-returns
 returns c = rw (← c .before .before .before .before .before .before .before .before .before .br-from .ensures, ← c .before .before .before .before .before .before .before .before .wide .ensures, ← c .before .before .before .before .before .before .before .br-to .ensures, ← c .before .before .before .before .before .before .wide2 .ensures, ends-up _ _ _ _ _ (c .before .if1 .taken)) cc

@@ -1,5 +1,5 @@
 -- `lines::inner::cones::thermal_to` meets its contract. Assumes nothing.
-use Rattle.lines.proofs.Lines.{in-range, thermal-row, to-stands}
+use Rattle.lines.proofs.Lines.{thermal-row, to-stands}
 use borrow.Author.Needs.{needs}
 use native.Mathlib.Omega.{arith}
 use Rattle.lines.proofs.inner.cones.thermal_to.Statement.{statement}
@@ -18,10 +18,10 @@ add-row-2 : tie.Need-add-row-2
 add-row-2 c = let q = thermal-row _ _ (c .before .before .pre .0) _ _ _ (c .before .before .pre .1 .0) (c .thermal-base .ensures) (c .before .before .pre .1 .2) in omega arith
 
 col-pt-requires : tie.Need-col-pt-requires
-col-pt-requires c κs = (in-range (c .before .before .before .before .pre .0), c .before .before .before .before .pre .1 .0)
+col-pt-requires c κs = (c .before .before .before .before .pre .0 .range, c .before .before .before .before .pre .1 .0)
 
 col-qt-requires : tie.Need-col-qt-requires
-col-qt-requires c κs = (in-range (c .before .before .before .before .before .pre .0), c .before .before .before .before .before .pre .1 .0)
+col-qt-requires c κs = (c .before .before .before .before .before .pre .0 .range, c .before .before .before .before .before .pre .1 .0)
 
 thermal-requires : tie.Need-thermal-requires
 thermal-requires c κs = let q = thermal-row _ _ (c .before .before .before .before .before .before .pre .0) _ _ _ (c .before .before .before .before .before .before .pre .1 .0) (c .before .before .before .before .thermal-base .ensures) (c .before .before .before .before .before .before .pre .1 .2) in omega arith
@@ -33,4 +33,4 @@ returns c =
     (to-stands _ _ (c .before .before .before .before .before .before .before .pre .0) _ _ (c .before .before .before .before .before .before .before .pre .1 .0) (c .before .before .before .before .before .before .before .pre .1 .1) (omega arith))
 
 pub thermal-to-spec : {M : Type 1} → statement M
-thermal-to-spec = tie.close (tie.spec (λ c κs. in-range (c .before .pre .0)) mul-row add-row cast-row add-row-2 (λ c. search needs) (λ c κs. search needs) col-pt-requires col-qt-requires thermal-requires returns)
+thermal-to-spec = tie.close (tie.spec (λ c κs. c .before .pre .0 .range) mul-row add-row cast-row add-row-2 (λ c. search needs) (λ c κs. search needs) col-pt-requires col-qt-requires thermal-requires returns)

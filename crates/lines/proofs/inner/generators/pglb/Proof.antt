@@ -1,14 +1,14 @@
 -- `lines::inner::generators::pglb` meets its contract. Assumes nothing.
-use Rattle.lines.proofs.Lines.{in-range, pglb-stands}
+use Rattle.lines.proofs.Lines.{pglb-stands}
 use borrow.Author.Needs.{needs}
 use Rattle.lines.proofs.inner.generators.pglb.Statement.{statement}
 use Rattle.lines.proofs.inner.generators.pglb.Tie as tie
 
 r-pglb-requires : tie.Need-r-pglb-requires
-r-pglb-requires c κs = (in-range (c .before .before .before .before .before .pre .0), c .before .before .before .before .before .pre .1)
+r-pglb-requires c κs = (c .before .before .before .before .before .pre .0 .range, c .before .before .before .before .before .pre .1)
 
 col-pg-requires : tie.Need-col-pg-requires
-col-pg-requires c κs = (in-range (c .before .before .before .before .before .before .pre .0), c .before .before .before .before .before .before .pre .1)
+col-pg-requires c κs = (c .before .before .before .before .before .before .pre .0 .range, c .before .before .before .before .before .before .pre .1)
 
 returns : tie.Need-returns
 returns c = rw (c .single .ensures, c .before .before .r-pglb .ensures, c .before .col-pg .ensures, c .before .before .before .pick .ensures, c .before .before .before .before .before .generator-capability-active .ensures, c .before .before .before .before .pmin .ensures) (pglb-stands _ _ (c .before .before .before .before .before .before .before .before .pre .0) _ (c .before .before .before .before .before .before .before .before .pre .1))

@@ -1,14 +1,14 @@
 -- `lines::inner::generators::qglb` meets its contract. Assumes nothing.
-use Rattle.lines.proofs.Lines.{in-range, qglb-stands}
+use Rattle.lines.proofs.Lines.{qglb-stands}
 use borrow.Author.Needs.{needs}
 use Rattle.lines.proofs.inner.generators.qglb.Statement.{statement}
 use Rattle.lines.proofs.inner.generators.qglb.Tie as tie
 
 r-qglb-requires : tie.Need-r-qglb-requires
-r-qglb-requires c κs = (in-range (c .before .before .before .before .before .pre .0), c .before .before .before .before .before .pre .1)
+r-qglb-requires c κs = (c .before .before .before .before .before .pre .0 .range, c .before .before .before .before .before .pre .1)
 
 col-qg-requires : tie.Need-col-qg-requires
-col-qg-requires c κs = (in-range (c .before .before .before .before .before .before .pre .0), c .before .before .before .before .before .before .pre .1)
+col-qg-requires c κs = (c .before .before .before .before .before .before .pre .0 .range, c .before .before .before .before .before .before .pre .1)
 
 returns : tie.Need-returns
 returns c = rw (c .single .ensures, c .before .before .r-qglb .ensures, c .before .col-qg .ensures, c .before .before .before .pick .ensures, c .before .before .before .before .before .generator-capability-active .ensures, c .before .before .before .before .qmin .ensures) (qglb-stands _ _ (c .before .before .before .before .before .before .before .before .pre .0) _ (c .before .before .before .before .before .before .before .before .pre .1))

@@ -1,6 +1,5 @@
 -- `lines::inner::ohm::ohm_pf` meets its contract. Assumes nothing.
 use Rattle.records.specs.Network.{branchOf}
-use Rattle.lines.proofs.Lines.{in-range}
 use Rattle.lines.proofs.Ohms.{pf-stands}
 use borrow.Author.Needs.{needs}
 use native.Mathlib.Omega.{arith}
@@ -8,13 +7,13 @@ use Rattle.lines.proofs.inner.ohm.ohm_pf.Statement.{statement}
 use Rattle.lines.proofs.inner.ohm.ohm_pf.Tie as tie
 
 r-ohm-pf-requires : tie.Need-r-ohm-pf-requires
-r-ohm-pf-requires c κs = (in-range (c .before .before .before .before .before .before .before .before .before .before .before .before .before .before .before .before .pre .0), c .before .before .before .before .before .before .before .before .before .before .before .before .before .before .before .before .pre .1)
+r-ohm-pf-requires c κs = (c .before .before .before .before .before .before .before .before .before .before .before .before .before .before .before .before .pre .0 .range, c .before .before .before .before .before .before .before .before .before .before .before .before .before .before .before .before .pre .1)
 
 col-pf-requires : tie.Need-col-pf-requires
-col-pf-requires c κs = (in-range (c .before .before .before .before .before .before .before .before .before .before .before .before .before .before .before .before .before .pre .0), c .before .before .before .before .before .before .before .before .before .before .before .before .before .before .before .before .before .pre .1)
+col-pf-requires c κs = (c .before .before .before .before .before .before .before .before .before .before .before .before .before .before .before .before .before .pre .0 .range, c .before .before .before .before .before .before .before .before .before .before .before .before .before .before .before .before .before .pre .1)
 
 ohm-requires : tie.Need-ohm-requires
-ohm-requires c κs = (in-range (c .before .before .before .before .before .before .before .before .before .before .before .before .before .before .before .before .before .before .pre .0), (c .before .before .before .before .before .before .before .before .before .before .before .before .before .before .before .before .before .before .pre .1, omega (arith, c .before .before .wide .ensures, c .before .before .before .br-from .ensures, c .before .before .before .before .before .before .before .before .before .before .before .before .before .before .before .before .before .before .pre .0 .accepted .from-below _ (c .before .before .before .before .before .before .before .before .before .before .before .before .before .before .before .before .before .before .pre .1))))
+ohm-requires c κs = (c .before .before .before .before .before .before .before .before .before .before .before .before .before .before .before .before .before .before .pre .0 .range, (c .before .before .before .before .before .before .before .before .before .before .before .before .before .before .before .before .before .before .pre .1, omega (arith, c .before .before .wide .ensures, c .before .before .before .br-from .ensures, c .before .before .before .before .before .before .before .before .before .before .before .before .before .before .before .before .before .before .pre .0 .accepted .from-below _ (c .before .before .before .before .before .before .before .before .before .before .before .before .before .before .before .before .before .before .pre .1))))
 
 returns : tie.Need-returns
 unfolding branchOf

@@ -1,6 +1,5 @@
 -- `lines::inner::ohm::ohm_pt` meets its contract. Assumes nothing.
 use Rattle.records.specs.Network.{branchOf}
-use Rattle.lines.proofs.Lines.{in-range}
 use Rattle.lines.proofs.Ohms.{pt-stands}
 use borrow.Author.Needs.{needs}
 use native.Mathlib.Omega.{arith}
@@ -8,13 +7,13 @@ use Rattle.lines.proofs.inner.ohm.ohm_pt.Statement.{statement}
 use Rattle.lines.proofs.inner.ohm.ohm_pt.Tie as tie
 
 r-ohm-pt-requires : tie.Need-r-ohm-pt-requires
-r-ohm-pt-requires c κs = (in-range (c .before .before .before .before .before .before .before .before .before .before .before .before .before .before .before .pre .0), c .before .before .before .before .before .before .before .before .before .before .before .before .before .before .before .pre .1)
+r-ohm-pt-requires c κs = (c .before .before .before .before .before .before .before .before .before .before .before .before .before .before .before .pre .0 .range, c .before .before .before .before .before .before .before .before .before .before .before .before .before .before .before .pre .1)
 
 col-pt-requires : tie.Need-col-pt-requires
-col-pt-requires c κs = (in-range (c .before .before .before .before .before .before .before .before .before .before .before .before .before .before .before .before .pre .0), c .before .before .before .before .before .before .before .before .before .before .before .before .before .before .before .before .pre .1)
+col-pt-requires c κs = (c .before .before .before .before .before .before .before .before .before .before .before .before .before .before .before .before .pre .0 .range, c .before .before .before .before .before .before .before .before .before .before .before .before .before .before .before .before .pre .1)
 
 ohm-requires : tie.Need-ohm-requires
-ohm-requires c κs = (in-range (c .before .before .before .before .before .before .before .before .before .before .before .before .before .before .before .before .before .pre .0), (c .before .before .before .before .before .before .before .before .before .before .before .before .before .before .before .before .before .pre .1, omega (arith, c .before .before .wide .ensures, c .before .before .before .br-to .ensures, c .before .before .before .before .before .before .before .before .before .before .before .before .before .before .before .before .before .pre .0 .accepted .to-below _ (c .before .before .before .before .before .before .before .before .before .before .before .before .before .before .before .before .before .pre .1))))
+ohm-requires c κs = (c .before .before .before .before .before .before .before .before .before .before .before .before .before .before .before .before .before .pre .0 .range, (c .before .before .before .before .before .before .before .before .before .before .before .before .before .before .before .before .before .pre .1, omega (arith, c .before .before .wide .ensures, c .before .before .before .br-to .ensures, c .before .before .before .before .before .before .before .before .before .before .before .before .before .before .before .before .before .pre .0 .accepted .to-below _ (c .before .before .before .before .before .before .before .before .before .before .before .before .before .before .before .before .before .pre .1))))
 
 returns : tie.Need-returns
 unfolding branchOf

@@ -1,6 +1,5 @@
 -- `lines::inner::ohm::ohm_qf` meets its contract. Assumes nothing.
 use Rattle.records.specs.Network.{branchOf}
-use Rattle.lines.proofs.Lines.{in-range}
 use Rattle.lines.proofs.Ohms.{qf-stands}
 use borrow.Author.Needs.{needs}
 use native.Mathlib.Omega.{arith}
@@ -8,13 +7,13 @@ use Rattle.lines.proofs.inner.ohm.ohm_qf.Statement.{statement}
 use Rattle.lines.proofs.inner.ohm.ohm_qf.Tie as tie
 
 r-ohm-qf-requires : tie.Need-r-ohm-qf-requires
-r-ohm-qf-requires c κs = (in-range (c .before .before .before .before .before .before .before .before .before .before .before .before .before .before .before .before .pre .0), c .before .before .before .before .before .before .before .before .before .before .before .before .before .before .before .before .pre .1)
+r-ohm-qf-requires c κs = (c .before .before .before .before .before .before .before .before .before .before .before .before .before .before .before .before .pre .0 .range, c .before .before .before .before .before .before .before .before .before .before .before .before .before .before .before .before .pre .1)
 
 col-qf-requires : tie.Need-col-qf-requires
-col-qf-requires c κs = (in-range (c .before .before .before .before .before .before .before .before .before .before .before .before .before .before .before .before .before .pre .0), c .before .before .before .before .before .before .before .before .before .before .before .before .before .before .before .before .before .pre .1)
+col-qf-requires c κs = (c .before .before .before .before .before .before .before .before .before .before .before .before .before .before .before .before .before .pre .0 .range, c .before .before .before .before .before .before .before .before .before .before .before .before .before .before .before .before .before .pre .1)
 
 ohm-requires : tie.Need-ohm-requires
-ohm-requires c κs = (in-range (c .before .before .before .before .before .before .before .before .before .before .before .before .before .before .before .before .before .before .pre .0), (c .before .before .before .before .before .before .before .before .before .before .before .before .before .before .before .before .before .before .pre .1, omega (arith, c .before .before .wide .ensures, c .before .before .before .br-from .ensures, c .before .before .before .before .before .before .before .before .before .before .before .before .before .before .before .before .before .before .pre .0 .accepted .from-below _ (c .before .before .before .before .before .before .before .before .before .before .before .before .before .before .before .before .before .before .pre .1))))
+ohm-requires c κs = (c .before .before .before .before .before .before .before .before .before .before .before .before .before .before .before .before .before .before .pre .0 .range, (c .before .before .before .before .before .before .before .before .before .before .before .before .before .before .before .before .before .before .pre .1, omega (arith, c .before .before .wide .ensures, c .before .before .before .br-from .ensures, c .before .before .before .before .before .before .before .before .before .before .before .before .before .before .before .before .before .before .pre .0 .accepted .from-below _ (c .before .before .before .before .before .before .before .before .before .before .before .before .before .before .before .before .before .before .pre .1))))
 
 returns : tie.Need-returns
 unfolding branchOf

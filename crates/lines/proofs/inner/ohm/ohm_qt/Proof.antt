@@ -1,6 +1,5 @@
 -- `lines::inner::ohm::ohm_qt` meets its contract. Assumes nothing.
 use Rattle.records.specs.Network.{branchOf}
-use Rattle.lines.proofs.Lines.{in-range}
 use Rattle.lines.proofs.Ohms.{qt-stands}
 use borrow.Author.Needs.{needs}
 use native.Mathlib.Omega.{arith}
@@ -8,13 +7,13 @@ use Rattle.lines.proofs.inner.ohm.ohm_qt.Statement.{statement}
 use Rattle.lines.proofs.inner.ohm.ohm_qt.Tie as tie
 
 r-ohm-qt-requires : tie.Need-r-ohm-qt-requires
-r-ohm-qt-requires c κs = (in-range (c .before .before .before .before .before .before .before .before .before .before .before .before .before .before .before .pre .0), c .before .before .before .before .before .before .before .before .before .before .before .before .before .before .before .pre .1)
+r-ohm-qt-requires c κs = (c .before .before .before .before .before .before .before .before .before .before .before .before .before .before .before .pre .0 .range, c .before .before .before .before .before .before .before .before .before .before .before .before .before .before .before .pre .1)
 
 col-qt-requires : tie.Need-col-qt-requires
-col-qt-requires c κs = (in-range (c .before .before .before .before .before .before .before .before .before .before .before .before .before .before .before .before .pre .0), c .before .before .before .before .before .before .before .before .before .before .before .before .before .before .before .before .pre .1)
+col-qt-requires c κs = (c .before .before .before .before .before .before .before .before .before .before .before .before .before .before .before .before .pre .0 .range, c .before .before .before .before .before .before .before .before .before .before .before .before .before .before .before .before .pre .1)
 
 ohm-requires : tie.Need-ohm-requires
-ohm-requires c κs = (in-range (c .before .before .before .before .before .before .before .before .before .before .before .before .before .before .before .before .before .pre .0), (c .before .before .before .before .before .before .before .before .before .before .before .before .before .before .before .before .before .pre .1, omega (arith, c .before .before .wide .ensures, c .before .before .before .br-to .ensures, c .before .before .before .before .before .before .before .before .before .before .before .before .before .before .before .before .before .pre .0 .accepted .to-below _ (c .before .before .before .before .before .before .before .before .before .before .before .before .before .before .before .before .before .pre .1))))
+ohm-requires c κs = (c .before .before .before .before .before .before .before .before .before .before .before .before .before .before .before .before .before .pre .0 .range, (c .before .before .before .before .before .before .before .before .before .before .before .before .before .before .before .before .before .pre .1, omega (arith, c .before .before .wide .ensures, c .before .before .before .br-to .ensures, c .before .before .before .before .before .before .before .before .before .before .before .before .before .before .before .before .before .pre .0 .accepted .to-below _ (c .before .before .before .before .before .before .before .before .before .before .before .before .before .before .before .before .before .pre .1))))
 
 returns : tie.Need-returns
 unfolding branchOf

@@ -4,13 +4,13 @@ use mathlib.Core.Path.{_≡_, ap₂, _∙_}
 use Prim.Native.Nat.{_+_}
 use native.Mathlib.Omega.{arith}
 use Rattle.interface.specs.declared.Operand.the-variants.{Price}
-use Rattle.solution.specs.Laid.{netOf}
 use Rattle.operands.specs.Selector.{selectorRow}
-use Rattle.solution.proofs.Laid.{nvar-number}
 use Rattle.elements.proofs.Balance.{balance-number}
 use Rattle.operands.proofs.Numbers.{row-few}
 use Rattle.operands.proofs.inner.selector.price_first.Statement.{statement}
 use Rattle.operands.proofs.inner.selector.price_first.Tie as tie
+use Rattle.numbering.specs.Laid.{netOf}
+use Rattle.numbering.proofs.Laid.{nvar-number}
 
 add-result : tie.Need-add-result
 add-result c =

@@ -9,7 +9,6 @@ use lib.Ieee.{Float}
 use Rattle.lists.specs.UpTo.{listed, overlay}
 use Rattle.refusals.proofs.Laws.{accepted-by, refused-by, left-refused, left-written}
 use Rattle.interface.specs.Scales.{one64}
-use Rattle.solution.specs.Laid.{netOf}
 use Rattle.operands.specs.Selector.{selectorElements}
 use Rattle.operands.specs.declared.Selected.the-variants.{Items}
 use Rattle.operands.proofs.Numbers.{items-few}

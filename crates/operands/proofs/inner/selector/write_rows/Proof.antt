@@ -5,11 +5,11 @@ use Prim.Native.Nat.{ℕ, _+_, _≤_}
 use mathlib.Core.List.{List}
 use native.Mathlib.Omega.{arith}
 use Rattle.lists.specs.UpTo.{listed, overlay}
-use Rattle.solution.specs.Laid.{netOf}
 use Rattle.operands.proofs.Numbers.{row-few, items-few}
 use Rattle.operands.proofs.Answers.{rows-listed, rows-none}
 use Rattle.operands.proofs.inner.selector.write_rows.Statement.{statement}
 use Rattle.operands.proofs.inner.selector.write_rows.Tie as tie
+use Rattle.numbering.specs.Laid.{netOf}
 
 returns : tie.Need-returns
 returns c = rows-none (netOf (c .before .before .before .before .args .l) (c .before .before .before .before .args .bytes .now)) (c .before .before .before .before .args .o) (c .before .before .before .before .args .rows .now) (sym (c .before .operand-count .ensures) ∙ c .if1 .taken)

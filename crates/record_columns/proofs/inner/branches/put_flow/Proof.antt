@@ -5,9 +5,9 @@ use mathlib.Core.Path.{_≡_, ap, _∙_}
 use native.Mathlib.Omega.{arith}
 use denote.Ref.{now}
 use Rattle.numbering.specs.Numbering.{rowNumber}
+use Rattle.numbering.specs.Laid.{netOf}
 use Rattle.numbering.specs.declared.RowName.the-variants.{Thermal}
 use Rattle.matrix.specs.Columns.{flowCells, thermalPlace, balanceRow}
-use Rattle.cells.specs.Ready.{netOf}
 use Rattle.coefficients.specs.Ohm.{rowKind}
 use Rattle.record_columns.specs.Writers.{flow}
 use Rattle.record_columns.proofs.Written.{thermal-row}

@@ -9,12 +9,12 @@ use Rattle.lists.specs.Compressed.{cellOut}
 use Rattle.lists.proofs.Compressed.{len-rows, len-vals}
 use Rattle.lists.proofs.Sums.{sum-next, bit-le}
 use Rattle.matrix.specs.Columns.{flowCells}
-use Rattle.cells.specs.Ready.{netOf}
 use Rattle.coefficients.specs.Ohm.{rowKind}
 use Rattle.cells.specs.Columns.{Columns}
 use Rattle.cells.proofs.Ends.{columns-none, columns-more, columns-all, columns-starts}
 use Rattle.record_columns.proofs.inner.branches.put_flows.Statement.{statement}
 use Rattle.record_columns.proofs.inner.branches.put_flows.Tie as tie
+use Rattle.numbering.specs.Laid.{netOf}
 
 abbrev Inv-loop : tie.InvT-loop
 Inv-loop starts₀ rows₀ vals₀ col at l bytes q m next₀ rank₀ e₀ starts rows vals next rank e = (e ≤ m) × (m ≡ l .m) × (rank ≡ count e (netOf l bytes .limited)) × (rank ≤ e) × (next ≤ at + 3 * e) × Columns (listed e (flowCells (netOf l bytes) (rowKind q))) col starts₀ (cellOut rows₀ vals₀ at) starts (cellOut rows vals next)

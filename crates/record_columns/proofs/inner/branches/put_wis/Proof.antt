@@ -7,11 +7,11 @@ use Rattle.lists.specs.UpTo.{listed}
 use Rattle.lists.specs.Compressed.{cellOut}
 use Rattle.lists.proofs.Compressed.{len-rows, len-vals}
 use Rattle.matrix.specs.Columns.{wiCells}
-use Rattle.cells.specs.Ready.{netOf}
 use Rattle.cells.specs.Columns.{Columns}
 use Rattle.cells.proofs.Ends.{columns-none, columns-more, columns-all, columns-starts}
 use Rattle.record_columns.proofs.inner.branches.put_wis.Statement.{statement}
 use Rattle.record_columns.proofs.inner.branches.put_wis.Tie as tie
+use Rattle.numbering.specs.Laid.{netOf}
 
 abbrev Inv-loop : tie.InvT-loop
 Inv-loop starts₀ rows₀ vals₀ at l bytes m col next₀ e₀ starts rows vals next e = (e ≤ m) × (m ≡ l .m) × (col ≡ 2 * l .k + l .n + l .m) × (next ≤ at + 7 * e) × Columns (listed e (wiCells (netOf l bytes))) (2 * l .k + l .n + l .m) starts₀ (cellOut rows₀ vals₀ at) starts (cellOut rows vals next)

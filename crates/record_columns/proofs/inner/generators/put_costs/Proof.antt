@@ -12,7 +12,7 @@ use Rattle.lists.proofs.Each.{each-more}
 use Rattle.lists.proofs.Sums.{sum-next, each-le, bit-le}
 use Rattle.numbering.specs.Blocks.{before}
 use Rattle.numbering.specs.Layout.{layoutRows}
-use Rattle.cells.specs.Ready.{netOf}
+use Rattle.numbering.specs.Laid.{netOf}
 use Rattle.cells.specs.Columns.{Columns}
 use Rattle.record_columns.specs.Writers.{costTurn}
 use Rattle.cells.proofs.Ends.{columns-starts, columns-start, columns-end}

@@ -8,8 +8,8 @@ use Rattle.lists.specs.UpTo.{sum}
 use Rattle.lists.proofs.Compressed.{then}
 use Rattle.numbering.specs.Blocks.{before}
 use Rattle.numbering.specs.Layout.{layoutRows}
+use Rattle.numbering.specs.Laid.{netOf}
 use Rattle.matrix.specs.Columns.{pgCells}
-use Rattle.cells.specs.Ready.{netOf}
 use Rattle.record_columns.specs.Writers.{pgHead}
 use Rattle.record_columns.proofs.Written.{slopes-are, segments-next}
 use Rattle.record_columns.proofs.inner.generators.put_pg.Statement.{statement}

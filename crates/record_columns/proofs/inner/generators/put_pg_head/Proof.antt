@@ -7,8 +7,8 @@ use denote.Ref.{now}
 use Rattle.lists.proofs.Compressed.{then}
 use Rattle.numbering.specs.Blocks.{before}
 use Rattle.numbering.specs.Layout.{layoutRow}
+use Rattle.numbering.specs.Laid.{netOf}
 use Rattle.numbering.specs.declared.RowName.the-variants.{Pbal}
-use Rattle.cells.specs.Ready.{netOf}
 use Rattle.record_columns.specs.Writers.{bounds, pgHead}
 use Rattle.record_columns.proofs.inner.generators.put_pg_head.Statement.{statement}
 use Rattle.record_columns.proofs.inner.generators.put_pg_head.Tie as tie

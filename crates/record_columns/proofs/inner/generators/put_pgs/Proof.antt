@@ -9,9 +9,9 @@ use Rattle.lists.specs.Compressed.{cellOut}
 use Rattle.lists.proofs.Compressed.{len-rows, len-vals}
 use Rattle.lists.proofs.Sums.{sum-next}
 use Rattle.numbering.specs.Blocks.{before}
+use Rattle.numbering.specs.Laid.{netOf}
 use Rattle.records.specs.Fields.{segmentsOf}
 use Rattle.matrix.specs.Columns.{pgCells}
-use Rattle.cells.specs.Ready.{netOf}
 use Rattle.cells.specs.Columns.{Columns}
 use Rattle.cells.proofs.Ends.{columns-none, columns-more, columns-all, columns-starts}
 use Rattle.record_columns.proofs.Written.{segments-below, segments-next}

@@ -7,9 +7,9 @@ use denote.Ref.{now}
 use Rattle.lists.proofs.Compressed.{then}
 use Rattle.numbering.specs.Blocks.{before}
 use Rattle.numbering.specs.Layout.{layoutRow}
+use Rattle.numbering.specs.Laid.{netOf}
 use Rattle.numbering.specs.declared.RowName.the-variants.{Qbal}
 use Rattle.matrix.specs.Columns.{qgCells}
-use Rattle.cells.specs.Ready.{netOf}
 use Rattle.record_columns.specs.Writers.{bounds}
 use Rattle.record_columns.proofs.inner.generators.put_qg.Statement.{statement}
 use Rattle.record_columns.proofs.inner.generators.put_qg.Tie as tie

@@ -7,8 +7,8 @@ use Rattle.lists.specs.UpTo.{listed}
 use Rattle.lists.specs.Compressed.{cellOut}
 use Rattle.lists.proofs.Compressed.{len-rows, len-vals}
 use Rattle.numbering.specs.Blocks.{before}
+use Rattle.numbering.specs.Laid.{netOf}
 use Rattle.matrix.specs.Columns.{qgCells}
-use Rattle.cells.specs.Ready.{netOf}
 use Rattle.cells.specs.Columns.{Columns}
 use Rattle.cells.proofs.Ends.{columns-none, columns-more, columns-all, columns-starts}
 use Rattle.record_columns.proofs.inner.generators.put_qgs.Statement.{statement}

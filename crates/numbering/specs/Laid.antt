@@ -1,12 +1,12 @@
--- The layout of accepted records: what a worker relies on that reads them.
+-- The layout of accepted records: what a function relies on that works on them.
 use Prim.Native.Nat.{ℕ}
 use mathlib.Core.Path.{_≡_}
 use mathlib.Core.List.{List}
 use lib.Ieee.{Float}
 use Rattle.records.specs.AcNetwork.{AcNetwork}
 use Rattle.records.specs.Network.{networkOf, Accepted}
 use Rattle.numbering.specs.Layout.{layoutOf, InRange}
 use Rattle.numbering.specs.declared.SocWrLayout.{SocWrLayout}
 
 -- the network of a layout's counts and of records
 abbrev pub netOf : SocWrLayout → List ℕ → AcNetwork Float
