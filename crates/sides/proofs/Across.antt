@@ -1,5 +1,5 @@
 -- Blocks of one length that follow each other, filled side by side: a turn writes one element of each. Assumes nothing.
-use Prim.Native.Nat.{ℕ, suc, _+_, _<_}
+use Prim.Native.Nat.{ℕ, suc, _+_, _≤_, _<_}
 use mathlib.Core.Path.{_≡_, refl, ap, _∙_}
 use mathlib.Core.List.{List, [], _∷_, _++_, append-nil, append-assoc}
 use native.Mathlib.Omega.{arith}
@@ -10,13 +10,17 @@ use Rattle.cells.specs.Filled.{Filled}
 use Rattle.cells.proofs.Fills.{filled-none, filled-more, filled-empty, filled-then, kept-length, listed-length}
 
 module _ {A : Type 0} where
-  -- a write before what is filled
+  -- what is written before a filled part could have been written first
   set-sets : (xs l : List A) (at p : ℕ) (v : A) → p < at → set (sets l at xs) p v ≡ sets (set l p v) at xs
   set-sets [] l at p v h = refl
   set-sets (x ∷ xs) l at p v h =
       set-sets xs (set l at x) (suc at) p v (omega arith) ∙ ap (λ (r : List A). sets r (suc at) xs) (set-comm l at p x v (λ e. omega arith))
 
-  filled-under : {xs l l′ : List A} {at : ℕ} (p : ℕ) (v : A) → p < at → Filled xs l at l′ → Filled xs (set l p v) at (set l′ p v)
+  pub sets-before : (xs ys l : List A) (p at : ℕ) → p + length xs ≤ at → sets (sets l at ys) p xs ≡ sets (sets l p xs) at ys
+  sets-before [] ys l p at h = refl
+  sets-before (x ∷ xs) ys l p at h = ap (λ (r : List A). sets r (suc p) xs) (set-sets ys l at p x (omega arith)) ∙ sets-before xs ys (set l p x) (suc p) at (omega arith)
+
+  pub filled-under : {xs l l′ : List A} {at : ℕ} (p : ℕ) (v : A) → p < at → Filled xs l at l′ → Filled xs (set l p v) at (set l′ p v)
   filled-under {xs} {l} {at = at} p v h f = record { is = ap (λ (r : List A). set r p v) (f .is) ∙ set-sets xs l at p v h }
 
   -- the first i elements of each block, the blocks c long and the first at a position
@@ -32,7 +36,7 @@ module _ {A : Type 0} where
   across-length none = refl
   across-length (more f r) = across-length r ∙ kept-length f
 
-  under : {c i at : ℕ} {fs : List (ℕ → A)} {l l′ : List A} (p : ℕ) (v : A) → p < at → Across c i fs at l l′ → Across c i fs at (set l p v) (set l′ p v)
+  pub under : {c i at : ℕ} {fs : List (ℕ → A)} {l l′ : List A} (p : ℕ) (v : A) → p < at → Across c i fs at l l′ → Across c i fs at (set l p v) (set l′ p v)
   under p v h none = none
   under p v h (more f r) = more (filled-under p v h f) (under p v (omega arith) r)
 

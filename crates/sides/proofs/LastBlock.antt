@@ -1,27 +1,20 @@
 -- The blocks that a chain of tests ends with, and the angle rows. Assumes nothing.
-use Prim.Native.Nat.{ℕ, _+_, _<_}
+use Prim.Native.Nat.{ℕ, _+_}
 use mathlib.Core.Path.{_≡_, refl, _∙_}
 use mathlib.Core.Bool.{Bool, cond}
 use mathlib.Core.List.{List}
-use native.Mathlib.Omega.{arith}
 use lib.Ieee.{Float}
 use Rattle.records.specs.Fields.{angledOf}
 use Rattle.numbering.specs.declared.SocWrLayout.{SocWrLayout}
 use Rattle.rows.specs.Ops.{rounded}
 use Rattle.rows.specs.Rows.{b, zero64}
-use Rattle.sides.specs.Sides.{BusBlock, pbal, qbal, wub, wlb, GenBlock, pgub, pglb, qgub, qglb, AngleBlock, angub, anglb, sideAt}
+use Rattle.sides.specs.Sides.{BusBlock, pbal, qbal, wub, wlb, GenBlock, pgub, pglb, qgub, qglb, sideAt}
 
 pub last-bus : {p : ℕ} → BusBlock p → (p ≡ 0 → ⊥) → (p ≡ 1 → ⊥) → (p ≡ 6 → ⊥) → p ≡ 7
 last-bus pbal a b c = absurd (a refl)
 last-bus qbal a b c = absurd (b refl)
 last-bus wub a b c = absurd (c refl)
 last-bus wlb a b c = refl
-
-pub bus-few : {p : ℕ} → BusBlock p → p < 8
-bus-few pbal = omega arith
-bus-few qbal = omega arith
-bus-few wub = omega arith
-bus-few wlb = omega arith
 
 pub last-gen : {p : ℕ} → GenBlock p → (p ≡ 8 → ⊥) → (p ≡ 9 → ⊥) → (p ≡ 10 → ⊥) → p ≡ 11
 last-gen pgub a b c = absurd (a refl)
@@ -30,7 +23,7 @@ last-gen qgub a b c = absurd (c refl)
 last-gen qglb a b c = refl
 
 -- the two angle rows of a branch have one right side
-pub angle-side : (l : SocWrLayout) (bytes : List ℕ) (e : ℕ) {p : ℕ} {on : Bool} {v : Float} → AngleBlock p → on ≡ angledOf bytes (l .n + e) → v ≡ cond on zero64 (rounded .one) → v ≡ sideAt l bytes p e
+pub angle-sides : (l : SocWrLayout) (bytes : List ℕ) (e : ℕ) {on : Bool} {v : Float} → on ≡ angledOf bytes (l .n + e) → v ≡ cond on zero64 (rounded .one)
+    → (v ≡ sideAt l bytes 12 e) × (v ≡ sideAt l bytes 13 e)
 unfolding sideAt b
-angle-side l bytes e angub h q = q ∙ rw h
-angle-side l bytes e anglb h q = q ∙ rw h
+angle-sides l bytes e h q = (q ∙ rw h, q ∙ rw h)

@@ -3,3 +3,4 @@ pub mod Ratings
 pub mod RightSide
 pub mod Quad
 pub mod Across
+pub mod Twice

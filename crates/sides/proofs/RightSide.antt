@@ -23,7 +23,7 @@ use Rattle.rows.specs.Program.{linear}
 use Rattle.matrix.specs.Lists.{rightSide}
 use Rattle.matrix.proofs.EveryPoint.{right-side, linear-side}
 use Rattle.cells.proofs.Fills.{listed-length}
-use Rattle.sides.specs.Sides.{sideAt, equalitySides, voltageSides, generatorSides, ratingSides, ratingsAt, otherSides, linearCost}
+use Rattle.sides.specs.Sides.{sideAt, balanceSides, zeroSides, voltageSides, generatorSides, angleSides, ratingSides, ratingsAt, interceptSides, linearCost}
 
 sum-same : (w n : ℕ) → sum n (λ i. w) ≡ w * n
 unfolding upTo
@@ -47,7 +47,7 @@ module _ {A : Type 0} where
       rw (e, each-split (λ i. x ∷ []) (m + m + m) m, each-split (λ i. x ∷ []) (m + m) m, each-split (λ i. x ∷ []) m m)
 
   regroup : (p q a b c d z u v f g h i r s t j k : List A) → a ++ b ++ c ++ d ≡ z
-      → (p ++ q ++ a ++ b ++ c ++ d) ++ (u ++ v ++ f ++ g ++ h ++ i ++ r ++ s ++ t) ++ (j ++ k) ≡ (p ++ q ++ z) ++ (u ++ v) ++ (f ++ g ++ h ++ i) ++ (r ++ s ++ t ++ j ++ k)
+      → (p ++ q ++ a ++ b ++ c ++ d) ++ (u ++ v ++ f ++ g ++ h ++ i ++ r ++ s ++ t) ++ (j ++ k) ≡ (p ++ q) ++ z ++ (u ++ v) ++ (f ++ g ++ h ++ i) ++ ((r ++ s) ++ t ++ j ++ k)
   regroup p q a b c d z u v f g h i r s t j k e = rw (← e) (simp append-assoc)
 
 bit-when : {A : Type 0} (p : Bool) (x : A) → each (bit p) (λ t. x ∷ []) ≡ when p (x ∷ [])
@@ -105,9 +105,13 @@ module _ (l : SocWrLayout) (bytes : List ℕ) (laid : Laid l bytes) where
       h : ℕ → List Float
       h r = neg (interceptOf bytes (l .n + l .m + l .k + r)) ∷ []
 
-  pub equalities-length : length (equalitySides l bytes) ≡ 2 * l .n + 4 * l .m
-  unfolding equalitySides
-  equalities-length = simp (length-append, listed-length) (omega arith)
+  pub balances-length : length (balanceSides l bytes) ≡ 2 * l .n
+  unfolding balanceSides
+  balances-length = simp (length-append, listed-length) (omega arith)
+
+  pub zeros-length : length (zeroSides l) ≡ 4 * l .m
+  unfolding zeroSides
+  zeros-length = listed-length _ _
 
   pub voltages-length : length (voltageSides l bytes) ≡ 2 * l .n
   unfolding voltageSides
@@ -117,14 +121,23 @@ module _ (l : SocWrLayout) (bytes : List ℕ) (laid : Laid l bytes) where
   unfolding generatorSides
   generators-length = simp (length-append, listed-length) (omega arith)
 
+  pub angles-length : length (angleSides l bytes) ≡ 2 * l .m
+  unfolding angleSides
+  angles-length = simp (length-append, listed-length) (omega arith)
+
+  pub intercepts-length : length (interceptSides l bytes) ≡ l .s
+  unfolding interceptSides
+  intercepts-length = listed-length _ _
+
   -- as many as the layout says
   pub right-length : length (rightSide (netOf l bytes)) ≡ total (layoutRows l)
   unfolding rightSide
   right-length = listed-length _ _ ∙ sym (ncon-number l bytes laid)
 
   -- b
-  pub right-parts : rightSide (netOf l bytes) ≡ equalitySides l bytes ++ voltageSides l bytes ++ generatorSides l bytes ++ otherSides l bytes
-  unfolding equalitySides voltageSides generatorSides otherSides sideAt b upTo ratingsAt ratingSides
+  pub right-parts : rightSide (netOf l bytes)
+      ≡ balanceSides l bytes ++ zeroSides l ++ voltageSides l bytes ++ generatorSides l bytes ++ (angleSides l bytes ++ interceptSides l bytes ++ zeroSides l ++ each (l .m) (ratingsAt l bytes))
+  unfolding balanceSides zeroSides voltageSides generatorSides angleSides interceptSides sideAt b upTo ratingsAt ratingSides
   right-parts =
       right-side (netOf l bytes)
       ∙ rw (intercepts, each-same 4 (l .m) zero64)

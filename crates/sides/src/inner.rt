@@ -3,7 +3,6 @@ use branch::inner::conic_angle_bound_active;
 use numbering::SocWrLayout;
 ghost use mathlib.Core.Path.{_≡_};
 ghost use mathlib.Core.Bool.{cond};
-ghost use mathlib.Core.List.{_++_};
 ghost use Prim.Native.Nat.{_+_, _*_, _≤_, _<_};
 ghost use lib.ListN.{length};
 ghost use lib.Ieee.{neg};
@@ -16,7 +15,7 @@ ghost use Rattle.rows.specs.Ops.{rounded};
 ghost use Rattle.rows.specs.Program.{linear};
 ghost use Rattle.matrix.specs.Lists.{rightSide};
 ghost use Rattle.cells.specs.Filled.{Filled};
-ghost use Rattle.sides.specs.Sides.{BusBlock, GenBlock, AngleBlock, sideAt, equalitySides, voltageSides, generatorSides, ratingSides, ratingsAt, otherSides, linearCost};
+ghost use Rattle.sides.specs.Sides.{BusBlock, GenBlock, FilledTwice, sideAt, balanceSides, voltageSides, generatorSides, angleSides, ratingSides, ratingsAt, linearCost};
 
 pub mod quadratic;
 
@@ -73,29 +72,30 @@ fn gen_rhs(l: SocWrLayout, bytes: &[u8], block: usize, g: usize) -> f64
     active(on, -records::inner::qmin(bytes, r))
 }
 
-// The right side of branch e in block angub or anglb.
-fn angle_rhs(l: SocWrLayout, bytes: &[u8], block: usize, e: usize) -> f64
+// The right side of branch e in angub and in anglb.
+fn angle_rhs(l: SocWrLayout, bytes: &[u8], e: usize) -> f64
     requires { ⌜ Laid l (now bytes) ⌝ }
-    requires { ⌜ AngleBlock block ⌝ }
     requires { ⌜ e < l .m ⌝ }
-    ensures { λ r. ⌜ r ≡ sideAt l (now (bytes .entry)) block e ⌝ }
+    ensures { λ r. ⌜ r ≡ sideAt l (now (bytes .entry)) 12 e ⌝ }
+    ensures { λ r. ⌜ r ≡ sideAt l (now (bytes .entry)) 13 e ⌝ }
 {
     active(conic_angle_bound_active(bytes, l.n + e), 0.0)
 }
 
-// Two blocks of the buses that follow each other.
-fn fill_buses(out: &mut [f64], at: usize, l: SocWrLayout, bytes: &[u8], block: usize)
+// pbal and qbal at the front; wub and wlb from voltage on.
+fn fill_buses(out: &mut [f64], voltage: usize, l: SocWrLayout, bytes: &[u8])
     requires { ⌜ Laid l (now bytes) ⌝ }
-    requires { ⌜ BusBlock block × BusBlock (block + 1) ⌝ }
-    requires { ⌜ at + 2 * l .n ≤ length (now out) ⌝ }
-    ensures { λ _. ⌜ Filled (listed (l .n) (sideAt l (now (bytes .entry)) block) ++ listed (l .n) (sideAt l (now (bytes .entry)) (block + 1))) (now (out .entry)) at (now (out .exit)) ⌝ }
+    requires { ⌜ (2 * l .n ≤ voltage) × (voltage + 2 * l .n ≤ length (now out)) ⌝ }
+    ensures { λ _. ⌜ FilledTwice (balanceSides l (now (bytes .entry))) (voltageSides l (now (bytes .entry))) (now (out .entry)) 0 voltage (now (out .exit)) ⌝ }
 {
     let n = l.n;
-    let second = at + n;
+    let lower = voltage + n;
     let mut i = 0;
     while i < n {
-        out[at + i] = bus_rhs(l, bytes, block, i);
-        out[second + i] = bus_rhs(l, bytes, block + 1, i);
+        out[0 + i] = bus_rhs(l, bytes, 0, i);
+        out[n + i] = bus_rhs(l, bytes, 1, i);
+        out[voltage + i] = bus_rhs(l, bytes, 6, i);
+        out[lower + i] = bus_rhs(l, bytes, 7, i);
         i += 1;
     }
 }
@@ -117,22 +117,6 @@ fn fill_capabilities(out: &mut [f64], at: usize, l: SocWrLayout, bytes: &[u8])
         out[a2 + g] = gen_rhs(l, bytes, 10, g);
         out[a3 + g] = gen_rhs(l, bytes, 11, g);
         g += 1;
-    }
-}
-
-// angub and anglb.
-fn fill_angles(out: &mut [f64], at: usize, l: SocWrLayout, bytes: &[u8])
-    requires { ⌜ Laid l (now bytes) ⌝ }
-    requires { ⌜ at + 2 * l .m ≤ length (now out) ⌝ }
-    ensures { λ _. ⌜ Filled (listed (l .m) (sideAt l (now (bytes .entry)) 12) ++ listed (l .m) (sideAt l (now (bytes .entry)) 13)) (now (out .entry)) at (now (out .exit)) ⌝ }
-{
-    let m = l.m;
-    let second = at + m;
-    let mut e = 0;
-    while e < m {
-        out[at + e] = angle_rhs(l, bytes, 12, e);
-        out[second + e] = angle_rhs(l, bytes, 13, e);
-        e += 1;
     }
 }
 
@@ -185,58 +169,26 @@ fn put_rating(out: &mut [f64], at: usize, on: bool, v: f64) -> usize
     at
 }
 
-fn fill_ratings(out: &mut [f64], at: usize, l: SocWrLayout, bytes: &[u8])
+// angub and anglb from angle on; the thermal rows from thermal on.
+fn fill_branches(out: &mut [f64], angle: usize, thermal: usize, l: SocWrLayout, bytes: &[u8])
     requires { ⌜ Laid l (now bytes) ⌝ }
-    requires { ⌜ at + 6 * l .t ≤ length (now out) ⌝ }
-    ensures { λ _. ⌜ Filled (each (l .m) (ratingsAt l (now (bytes .entry)))) (now (out .entry)) at (now (out .exit)) ⌝ }
+    requires { ⌜ (angle + 2 * l .m ≤ thermal) × (thermal + 6 * l .t ≤ length (now out)) ⌝ }
+    ensures { λ _. ⌜ FilledTwice (angleSides l (now (bytes .entry))) (each (l .m) (ratingsAt l (now (bytes .entry)))) (now (out .entry)) angle thermal (now (out .exit)) ⌝ }
 {
     let m = l.m;
-    let mut next = at;
+    let lower = angle + m;
+    let mut next = thermal;
     let mut e = 0;
     while e < m {
         let r = l.n + e;
+        let v = angle_rhs(l, bytes, e);
         let on = records::inner::thermal_limit_active(bytes, r);
         let rate_a = records::inner::rate_a(bytes, r);
+        out[angle + e] = v;
+        out[lower + e] = v;
         next = put_rating(out, next, on, rate_a);
         e += 1;
     }
-}
-
-// pbal, qbal and the Ohm rows.
-fn fill_equalities(out: &mut [f64], l: SocWrLayout, bytes: &[u8])
-    requires { ⌜ Laid l (now bytes) ⌝ }
-    requires { ⌜ 2 * l .n + 4 * l .m ≤ length (now out) ⌝ }
-    ensures { λ _. ⌜ Filled (equalitySides l (now (bytes .entry))) (now (out .entry)) 0 (now (out .exit)) ⌝ }
-{
-    let ohm = 2 * l.n;
-    let zeros = 4 * l.m;
-    fill_buses(out, 0, l, bytes, 0);
-    fill_all(out, ohm, zeros, 0.0);
-}
-
-fn fill_voltages(out: &mut [f64], at: usize, l: SocWrLayout, bytes: &[u8])
-    requires { ⌜ Laid l (now bytes) ⌝ }
-    requires { ⌜ at + 2 * l .n ≤ length (now out) ⌝ }
-    ensures { λ _. ⌜ Filled (voltageSides l (now (bytes .entry))) (now (out .entry)) at (now (out .exit)) ⌝ }
-{
-    fill_buses(out, at, l, bytes, 6);
-}
-
-// The angle, cost, jabr and thermal rows.
-fn fill_others(out: &mut [f64], at: usize, l: SocWrLayout, bytes: &[u8])
-    requires { ⌜ Laid l (now bytes) ⌝ }
-    requires { ⌜ at + 6 * l .m + l .s + 6 * l .t ≤ length (now out) ⌝ }
-    ensures { λ _. ⌜ Filled (otherSides l (now (bytes .entry))) (now (out .entry)) at (now (out .exit)) ⌝ }
-{
-    let first = l.n + l.m + l.k;
-    let a1 = at + 2 * l.m;
-    let a2 = a1 + l.s;
-    let zeros = 4 * l.m;
-    let a3 = a2 + zeros;
-    fill_angles(out, at, l, bytes);
-    fill_intercepts(out, a1, bytes, first, l.s);
-    fill_all(out, a2, zeros, 0.0);
-    fill_ratings(out, a3, l, bytes);
 }
 
 // All of b.
@@ -245,13 +197,21 @@ pub fn fill_b(out: &mut [f64], l: SocWrLayout, bytes: &[u8])
     requires { ⌜ total (layoutRows l) ≤ length (now out) ⌝ }
     ensures { λ _. ⌜ now (out .exit) ≡ overlay (rightSide (netOf l (now (bytes .entry)))) (now (out .entry)) ⌝ }
 {
-    let voltage = 2 * l.n + 4 * l.m;
+    let ohm = 2 * l.n;
+    let zeros = 4 * l.m;
+    let voltage = ohm + zeros;
     let capability = voltage + 2 * l.n;
     let angle = capability + 4 * l.k;
-    fill_equalities(out, l, bytes);
-    fill_voltages(out, voltage, l, bytes);
+    let cost = angle + 2 * l.m;
+    let jabr = cost + l.s;
+    let thermal = jabr + zeros;
+    let segments = l.n + l.m + l.k;
+    fill_all(out, ohm, zeros, 0.0);
+    fill_buses(out, voltage, l, bytes);
     fill_capabilities(out, capability, l, bytes);
-    fill_others(out, angle, l, bytes);
+    fill_intercepts(out, cost, bytes, segments, l.s);
+    fill_all(out, jabr, zeros, 0.0);
+    fill_branches(out, angle, thermal, l, bytes);
 }
 
 // 0 with the linear cost added, at each pg.
