@@ -3,25 +3,25 @@
 use std::hint::black_box;
 use std::time::Instant;
 
-const ROUNDS: usize = 25;
-/// A round lasts at least this many nanoseconds.
-const ROUND: u128 = 2_000_000;
+const ROUNDS: usize = 60;
+/// A turn is one call, or as many as last about this many nanoseconds.
+const TURN: u128 = 20_000;
 
-fn nanoseconds<T>(turns: u128, call: &mut impl FnMut() -> T) -> u128 {
+fn nanoseconds<T>(calls: u128, call: &mut impl FnMut() -> T) -> u128 {
     let start = Instant::now();
-    for _ in 0..turns {
+    for _ in 0..calls {
         black_box(call());
     }
     start.elapsed().as_nanos()
 }
 
-/// How many turns last a round.
-fn turns<T>(call: &mut impl FnMut() -> T) -> u128 {
-    let mut turns = 1;
-    while nanoseconds(turns, call) < ROUND / 2 {
-        turns *= 2;
+/// How many calls make a turn.
+fn calls<T>(call: &mut impl FnMut() -> T) -> u128 {
+    let mut calls = 1;
+    while nanoseconds(calls, call) < TURN / 2 {
+        calls *= 2;
     }
-    turns
+    calls
 }
 
 /// What else the machine does only adds to a time.
@@ -31,17 +31,17 @@ fn least(times: Vec<f64>) -> f64 {
 
 /// Nanoseconds of a call.
 pub fn one<T>(mut call: impl FnMut() -> T) -> f64 {
-    let turns = turns(&mut call);
-    least((0..ROUNDS).map(|_| nanoseconds(turns, &mut call) as f64 / turns as f64).collect())
+    let calls = calls(&mut call);
+    least((0..ROUNDS).map(|_| nanoseconds(calls, &mut call) as f64 / calls as f64).collect())
 }
 
-/// Nanoseconds of two calls whose rounds take turns.
-fn two<T, U>(mut ours: impl FnMut() -> T, mut rust: impl FnMut() -> U) -> (f64, f64) {
-    let (a, b) = (turns(&mut ours), turns(&mut rust));
+/// Nanoseconds of two calls that take turns, so that each finds the caches as the other left them.
+fn two<T, U>(mut first: impl FnMut() -> T, mut second: impl FnMut() -> U) -> (f64, f64) {
+    let (a, b) = (calls(&mut first), calls(&mut second));
     let mut times = (Vec::new(), Vec::new());
     for _ in 0..ROUNDS {
-        times.0.push(nanoseconds(a, &mut ours) as f64 / a as f64);
-        times.1.push(nanoseconds(b, &mut rust) as f64 / b as f64);
+        times.0.push(nanoseconds(a, &mut first) as f64 / a as f64);
+        times.1.push(nanoseconds(b, &mut second) as f64 / b as f64);
     }
     (least(times.0), least(times.1))
 }
@@ -59,9 +59,14 @@ pub fn head(title: &str) {
     println!("\n{title:<48}{:>12}{:>12}{:>8}", "ours", "Rust", "ratio");
 }
 
-/// A line: what was timed, ours, the Rust's, and ours divided by the Rust's. Answers ours.
-pub fn line<T, U>(what: &str, ours: impl FnMut() -> T, rust: impl FnMut() -> U) -> f64 {
+/// A line: what was timed, ours, the Rust's, and ours divided by the Rust's.
+pub fn line<T, U>(what: &str, ours: impl FnMut() -> T, rust: impl FnMut() -> U) {
     let (a, b) = two(ours, rust);
     println!("  {what:<46}{:>12}{:>12}{:>8.2}", shown(a), shown(b), a / b);
-    a
+}
+
+/// How much longer a call takes at 4,096 buses than at 1,024, the two taking turns.
+pub fn growth<T, U>(what: &str, small: impl FnMut() -> T, large: impl FnMut() -> U) {
+    let (a, b) = two(small, large);
+    println!("  {what}: {} at 1,024 buses, {} at 4,096, {:.2} times as long", shown(a), shown(b), b / a);
 }

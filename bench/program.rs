@@ -1,6 +1,6 @@
 //! Program and reading beside the Rust's assembly of the same network, which is already in memory as `AcNetwork`.
 
-use crate::clock::{head, line, one, shown};
+use crate::clock::{growth, head, line};
 use crate::network::{Branch, Generator, Network, Shape};
 use crate::random::Random;
 use plain::Counts;
@@ -87,48 +87,83 @@ impl Room {
     }
 }
 
-/// The lines of the program; the time of A, of all four, and of the Rust.
-fn assembly(net: Net, rust: &AcNetwork, layout: &SocWrLayout) -> [f64; 3] {
-    let whole = || build_conic_opf(&SocWr::new(), black_box(rust));
-    let entries = whole().a.nzval.len();
-    let mut generous = Room::new(layout, 2 * entries);
-    let mut exact = Room::new(layout, entries);
-    line("A, twice the room (the Rust: all four)", || generous.a(net), whole);
-    line("A, exactly the room (the Rust: all four)", || exact.a(net), whole);
-    line("P, q, A, b", || generous.all(net), whole);
-    [one(|| generous.a(net)), one(|| generous.all(net)), one(whole)]
+/// A network for us and for the Rust.
+struct Case {
+    network: Network,
+    rust: AcNetwork,
+    layout: SocWrLayout,
+    entries: usize,
+}
+
+impl Case {
+    fn new(shape: &Shape) -> Self {
+        let network = plain_network(shape);
+        let rust = in_memory(&network);
+        let layout = SocWrLayout::new(&rust);
+        let entries = build_conic_opf(&SocWr::new(), &rust).a.nzval.len();
+        Case { network, rust, layout, entries }
+    }
+
+    fn net(&self) -> Net<'_> {
+        Net { counts: self.network.counts, records: &self.network.bytes }
+    }
+
+    /// Twice the room that A takes.
+    fn generous(&self) -> Room {
+        Room::new(&self.layout, 2 * self.entries)
+    }
+
+    /// The Rust's P, q, A and b; answers how many rows.
+    fn whole(&self) -> usize {
+        build_conic_opf(&SocWr::new(), black_box(&self.rust)).b.len()
+    }
+}
+
+/// The lines of the program.
+fn assembly(case: &Case) {
+    let mut generous = case.generous();
+    let mut exact = Room::new(&case.layout, case.entries);
+    line("A, twice the room (the Rust: all four)", || generous.a(case.net()), || case.whole());
+    line("A, exactly the room (the Rust: all four)", || exact.a(case.net()), || case.whole());
+    line("P, q, A, b", || generous.all(case.net()), || case.whole());
 }
 
 /// The lines of the reading. The Rust copies x, z and nine lists besides.
-fn reading(net: Net, rust: &AcNetwork, layout: &SocWrLayout) {
+fn reading(case: &Case) {
     let random = &mut Random::new(6);
+    let (net, layout) = (case.net(), &case.layout);
     let [x, z] = [layout.nvar, layout.ncon].map(|length| (0..length).map(|_| random.plain()).collect::<Vec<f64>>());
     let raw = RawSolution { x: x.clone(), z: z.clone(), objective: 0.0, iterations: vec![] };
     let mut prices = vec![0.0; 2 * layout.n];
     let ours = || (socwr::prices(black_box(net), &z, &mut prices), socwr::objective(black_box(net), 1, &x, 0.0));
-    line("prices and cost (the Rust: all lists)", ours, || read_socwr(black_box(rust), layout, black_box(&raw)));
+    line("prices and cost (the Rust: all lists)", ours, || read_socwr(black_box(&case.rust), layout, black_box(&raw)));
 }
 
-fn one_size(title: &str, shape: &Shape) -> [f64; 3] {
-    let network = plain_network(shape);
-    let c = network.counts;
-    let net = Net { counts: c, records: &network.bytes };
-    let rust = in_memory(&network);
-    let layout = SocWrLayout::new(&rust);
+fn one_size(title: &str, case: &Case) {
+    let (net, c) = (case.net(), case.network.counts);
     head(&format!("{title}: n {} m {} k {} S {}", c.n, c.m, c.k, c.s));
-    line("record check", || socwr::check_records(black_box(net)), || plain::check(black_box(c), &network.bytes));
-    let times = assembly(net, &rust, &layout);
-    reading(net, &rust, &layout);
-    times
+    line("record check", || socwr::check_records(black_box(net)), || plain::check(black_box(c), net.records));
+    assembly(case);
+    reading(case);
+}
+
+/// The growth of the program.
+fn grow(small: &Case, large: &Case) {
+    println!("\nThe two sizes in turns:");
+    let mut rooms = [small.generous(), large.generous()];
+    let [a, b] = &mut rooms;
+    growth("A", || a.a(small.net()), || b.a(large.net()));
+    growth("P, q, A, b", || a.all(small.net()), || b.all(large.net()));
+    growth("the Rust's", || small.whole(), || large.whole());
 }
 
 pub fn print() {
     println!("\nProgram and reading. Each entry checks the records first; the Rust has its network in memory.");
     println!("The Rust makes all four at once; its compressed columns are the stand-in's, made by counting.");
-    let times = [16, 128, 1024, 4096].map(|buses| one_size("usual", &usual(buses)));
-    one_size("hub", &hub(4096));
-    for (i, what) in ["A", "P, q, A, b", "the Rust's"].into_iter().enumerate() {
-        let (small, large) = (times[2][i], times[3][i]);
-        println!("  {what}: {} at n 4,096, {:.2} times that at 1,024", shown(large), large / small);
+    let cases = [16, 128, 1024, 4096].map(|buses| Case::new(&usual(buses)));
+    for case in &cases {
+        one_size("usual", case);
     }
+    one_size("hub", &Case::new(&hub(4096)));
+    grow(&cases[2], &cases[3]);
 }
