@@ -11,8 +11,7 @@ use Rattle.lists.specs.UpTo.{upTo, each, listed}
 use Rattle.lists.specs.Entries.{Cell}
 use Rattle.lists.proofs.Each.{each-split}
 use Rattle.lists.proofs.Steps.{through-none, through-append}
-use Rattle.combination.specs.Magnitude.{zero64}
-use Rattle.combination.specs.Selectors.{itemOf}
+use Rattle.sparse.specs.Sparse.{zero64, itemOf}
 use Rattle.combination.specs.Combination.{weigh, weighed, nonzeroAt, nonzeros, adjointAt, table}
 use Rattle.combination.specs.Passes.{place, Below, Passed, weighedAt, Segments}
 use Rattle.combination.specs.Gathering.{span, passedRows, Filling, Summed}

@@ -12,7 +12,7 @@ use Rattle.lists.specs.Entries.{Cell, cell}
 use Rattle.lists.proofs.UpTo.{upTo-same}
 use Rattle.lists.proofs.Each.{each-split}
 use Rattle.lists.proofs.Listed.{listed-at}
-use Rattle.combination.specs.Selectors.{startOf, segment, itemOf}
+use Rattle.sparse.specs.Sparse.{startOf, segment, itemOf}
 use Rattle.combination.specs.Gathering.{held, span, Added, passedRows, Segmented, Filling}
 use Rattle.combination.proofs.Buffer.{held-length, added-count}
 use Rattle.combination.proofs.Walked.{passed-here, passed-after, onward, before-both, not-reached, further-column}

@@ -9,7 +9,7 @@ use native.Mathlib.Omega.{arith}
 use lib.ListN.{length, getD, set}
 use lib.Seq.{getD-set-other}
 use lib.Ieee.{Float, nan}
-use Rattle.combination.specs.Selectors.{itemOf}
+use Rattle.sparse.specs.Sparse.{itemOf}
 use Rattle.combination.specs.Combination.{weighed}
 use Rattle.combination.specs.Passes.{place, Below, Spread, Passed, weighedAt}
 use Rattle.combination.proofs.Cells.{passed-none, passed-one, passed-joined, passed-same}

@@ -8,8 +8,7 @@ use Rattle.lists.specs.Steps.{through}
 use Rattle.lists.specs.Entries.{Cell, cell}
 use Rattle.interface.specs.declared.Mode.{Mode}
 use Rattle.interface.specs.declared.Mode.the-variants.{Forward, Adjoint, Auto}
-use Rattle.combination.specs.Magnitude.{zero64}
-use Rattle.combination.specs.Selectors.{itemsOf, itemOf}
+use Rattle.sparse.specs.Sparse.{zero64, itemsOf, itemOf}
 
 -- `acc += w * x[(r, c)]`, the column of x beginning at base
 unfoldable pub weigh : List Float → ℕ → Cell → Float → Float

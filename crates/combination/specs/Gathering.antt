@@ -8,7 +8,7 @@ use lib.ListN.{length, getD}
 use lib.Ieee.{Float, nan}
 use Rattle.lists.specs.UpTo.{each, listed}
 use Rattle.lists.specs.Entries.{Cell, cell}
-use Rattle.combination.specs.Selectors.{startOf, itemOf}
+use Rattle.sparse.specs.Sparse.{startOf, itemOf}
 use Rattle.combination.specs.Combination.{weighed, nonzeroAt}
 
 -- the first n cells of the buffer

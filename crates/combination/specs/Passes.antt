@@ -5,7 +5,7 @@ use mathlib.Core.Path.{_≡_}
 use mathlib.Core.List.{List}
 use lib.ListN.{length, getD}
 use lib.Ieee.{Float, nan}
-use Rattle.combination.specs.Selectors.{startOf, itemOf}
+use Rattle.sparse.specs.Sparse.{startOf, itemOf}
 use Rattle.combination.specs.Combination.{weighed}
 
 abbrev pub place : ℕ → ℕ → ℕ → ℕ → ℕ → ℕ

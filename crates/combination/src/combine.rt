@@ -8,9 +8,9 @@ ghost use Prim.Native.Nat.{ℕ, _+_, _*_, _≤_, _<_};
 ghost use lib.Ieee.{binary64, nan, mul};
 ghost use lib.ListN.{length, getD};
 ghost use Rattle.lists.specs.UpTo.{listed};
-ghost use Rattle.combination.specs.Selectors.{itemsOf};
+ghost use Rattle.sparse.specs.Sparse.{itemsOf};
+ghost use Rattle.sparse.specs.Checks.{selectorFits};
 ghost use Rattle.combination.specs.Combination.{forwardAt, adjointAt, table};
-ghost use Rattle.combination.specs.Checks.{selectorFits};
 ghost use Rattle.combination.specs.Gathering.{Summed};
 
 // Each element times the sign.

@@ -8,7 +8,7 @@ ghost use lib.Ieee.{ne};
 ghost use lib.ListN.{length};
 ghost use Rattle.lists.specs.UpTo.{when};
 ghost use Rattle.lists.specs.Entries.{cell};
-ghost use Rattle.combination.specs.Magnitude.{zero64};
+ghost use Rattle.sparse.specs.Sparse.{zero64};
 ghost use Rattle.combination.specs.Gathering.{span, Added, Stopped, Filling};
 
 // One value, kept behind the first n where it is not zero.

@@ -1,10 +1,10 @@
 // Segments of rows and weights by the columns of a dense matrix: what both combinations are made of.
 // Two columns go together, so that one sum need not wait for the other.
-use crate::checks::wide;
+use sparse::inner::wide;
 ghost use mathlib.Core.Path.{_≡_};
 ghost use Prim.Native.Nat.{ℕ, _+_, _*_, _^_, _≤_, _<_};
 ghost use lib.ListN.{length, getD};
-ghost use Rattle.combination.specs.Selectors.{segment};
+ghost use Rattle.sparse.specs.Sparse.{segment};
 ghost use Rattle.combination.specs.Combination.{weighed};
 ghost use Rattle.combination.specs.Passes.{place, Below, Spread, Passed, weighedAt, Segments};
 

@@ -5,7 +5,7 @@ use borrow.Author.Needs.{needs}
 use denote.Ref.{now}
 use lib.ListN.{length}
 use Rattle.combination.specs.Gathering.{passedRows, Summed}
-use Rattle.combination.proofs.Places.{inside}
+use Rattle.sparse.proofs.Places.{inside}
 use Rattle.combination.proofs.Walked.{passed-before}
 use Rattle.combination.proofs.Tables.{spread-adjoint}
 use Rattle.combination.proofs.Adjoint.{segments-filled, summed-none, summed-empty, summed-more, summed-same}

@@ -7,7 +7,7 @@ use denote.Ref.{now}
 use lib.ListN.{length, length-set}
 use lib.Seq.{getD-set-same}
 use Rattle.combination.specs.Gathering.{passedRows, Segmented}
-use Rattle.combination.proofs.Places.{column-inside, next-column}
+use Rattle.sparse.proofs.Places.{column-inside, next-column}
 use Rattle.combination.proofs.Walked.{passed-before, passed-here, passed-after}
 use Rattle.combination.proofs.Filled.{segmented-none, segmented-more, filling-part, filling-whole}
 use Rattle.combination.proofs.gather.fill.Statement.{statement}

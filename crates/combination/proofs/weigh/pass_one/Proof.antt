@@ -5,16 +5,16 @@ use native.Mathlib.Omega.{arith}
 use borrow.Author.Needs.{needs}
 use denote.Ref.{now}
 use lib.ListN.{length}
-use Rattle.combination.specs.Selectors.{itemOf}
+use Rattle.sparse.specs.Sparse.{itemOf}
 use Rattle.combination.specs.Passes.{place, Below, Passed, weighedAt}
 use Rattle.combination.proofs.Cells.{passed-none}
-use Rattle.combination.proofs.Places.{next-column}
+use Rattle.sparse.proofs.Places.{next-column}
 use Rattle.combination.proofs.Rows.{first-inside, one-row, first-base}
 use Rattle.combination.proofs.weigh.pass_one.Statement.{statement}
 use Rattle.combination.proofs.weigh.pass_one.Tie as tie
 use Rattle.combination.proofs.weigh.pass_one.Reads as reads
 use Rattle.combination.proofs.weigh.pass_one.Lts as lts
-use Rattle.combination.proofs.checks.wide.Reads as wide-reads
+use Rattle.sparse.proofs.inner.wide.Reads as wide-reads
 use Rattle.combination.proofs.weigh.weigh_one.Reads as weigh-one-reads
 
 abbrev Inv-loop : tie.InvT-loop

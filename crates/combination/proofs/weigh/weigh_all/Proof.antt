@@ -7,7 +7,7 @@ use denote.Ref.{now}
 use lib.ListN.{length}
 use Rattle.combination.specs.Passes.{place, Below, Passed, weighedAt}
 use Rattle.combination.proofs.Cells.{passed-none}
-use Rattle.combination.proofs.Places.{columns-inside}
+use Rattle.sparse.proofs.Places.{columns-inside}
 use Rattle.combination.proofs.Rows.{spread-fewer, spread-from, spread-alone, passed-alone, more-columns, weighed-from}
 use Rattle.combination.proofs.weigh.weigh_all.Statement.{statement}
 use Rattle.combination.proofs.weigh.weigh_all.Tie as tie

@@ -10,13 +10,13 @@ use Rattle.lists.specs.UpTo.{each}
 use Rattle.lists.specs.Entries.{cell}
 use Rattle.lists.specs.Steps.{through}
 use Rattle.lists.proofs.Steps.{over-none, over-next}
-use Rattle.combination.specs.Selectors.{segment}
+use Rattle.sparse.specs.Sparse.{segment}
 use Rattle.combination.specs.Combination.{weigh, weighed}
 use Rattle.combination.proofs.weigh.weigh_one.Statement.{statement}
 use Rattle.combination.proofs.weigh.weigh_one.Tie as tie
 use Rattle.combination.proofs.weigh.weigh_one.Reads as reads
 use Rattle.combination.proofs.weigh.weigh_one.Lts as lts
-use Rattle.combination.proofs.checks.wide.Reads as wide-reads
+use Rattle.sparse.proofs.inner.wide.Reads as wide-reads
 
 abbrev Inv-loop : tie.InvT-loop
 Inv-loop x base dim rows weights first past a count sum₀ k₀ sum k = (k ≤ count) × (count ≡ past - first) × (sum ≡ through (weigh x base) (each k (λ j. cell (getD rows (first + j) 0) (getD weights (first + j) nan) ∷ [])) a)

@@ -10,13 +10,13 @@ use Rattle.lists.specs.UpTo.{each}
 use Rattle.lists.specs.Entries.{cell}
 use Rattle.lists.specs.Steps.{through}
 use Rattle.lists.proofs.Steps.{over-none, over-next}
-use Rattle.combination.specs.Selectors.{segment}
+use Rattle.sparse.specs.Sparse.{segment}
 use Rattle.combination.specs.Combination.{weigh, weighed}
 use Rattle.combination.proofs.weigh.weigh_two.Statement.{statement}
 use Rattle.combination.proofs.weigh.weigh_two.Tie as tie
 use Rattle.combination.proofs.weigh.weigh_two.Reads as reads
 use Rattle.combination.proofs.weigh.weigh_two.Lts as lts
-use Rattle.combination.proofs.checks.wide.Reads as wide-reads
+use Rattle.sparse.proofs.inner.wide.Reads as wide-reads
 
 abbrev Inv-loop : tie.InvT-loop
 Inv-loop x base other dim rows weights first past count a₀ b₀ k₀ a b k = (k ≤ count) × (count ≡ past - first) × (a ≡ through (weigh x base) (each k (λ j. cell (getD rows (first + j) 0) (getD weights (first + j) nan) ∷ [])) a₀) × (b ≡ through (weigh x other) (each k (λ j. cell (getD rows (first + j) 0) (getD weights (first + j) nan) ∷ [])) b₀)
