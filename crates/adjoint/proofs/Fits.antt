@@ -1,4 +1,4 @@
--- What an accepted check say. Assumes nothing.
+-- What an accepted check says. Assumes nothing.
 use Prim.Native.Nat.{ℕ, _*_, _≤_}
 use mathlib.Core.Path.{_≡_}
 use mathlib.Core.Bool.{true}

@@ -3,9 +3,5 @@ pub mod Layouts
 pub mod Points
 pub mod Names
 pub mod Entered
-pub mod Asked
-pub mod Standing
-pub mod Answers
 pub mod ConeLengths
-pub mod Theorem
 pub mod OnePass

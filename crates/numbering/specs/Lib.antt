@@ -3,4 +3,3 @@ pub mod Numbering
 pub mod Layout
 pub mod Tally
 pub mod Lookups
-pub mod Numbered
