@@ -1,9 +1,4 @@
 pub mod Fits
-pub mod Cells
-pub mod Rows
-pub mod Buffer
-pub mod Filled
-pub mod Walked
 pub mod Tables
 pub mod Forward
 pub mod Adjoint

@@ -1,4 +1,3 @@
 pub mod Combination
 pub mod Checks
-pub mod Passes
-pub mod Gathering
+pub mod Summed

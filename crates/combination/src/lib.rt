@@ -2,7 +2,5 @@
 // A dense matrix lies by columns: row r of column c at c * dim + r.
 mod combine;
 mod direction;
-mod gather;
-mod weigh;
 
 pub use direction::forward_adjoint;

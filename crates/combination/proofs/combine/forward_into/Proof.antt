@@ -14,7 +14,7 @@ use Rattle.combination.proofs.combine.forward_into.Tie as tie
 use Rattle.combination.proofs.combine.forward_into.Reads as reads
 use Rattle.combination.proofs.combine.forward_into.Lts as lts
 use Rattle.combination.proofs.combine.scale.Reads as scale-reads
-use Rattle.combination.proofs.weigh.weigh_all.Reads as weigh-all-reads
+use Rattle.weighing.proofs.inner.weigh.weigh_all.Reads as weigh-all-reads
 use Rattle.lists.proofs.inner.fill_f64.Reads as fill-f64-reads
 
 -- src/combine.rt:39:5
