@@ -11,12 +11,13 @@ use Rattle.lists.specs.UpTo.{upTo, each, listed}
 use Rattle.lists.specs.Entries.{Cell}
 use Rattle.lists.proofs.Each.{each-split}
 use Rattle.lists.proofs.Steps.{through-none, through-append}
-use Rattle.combination.specs.Magnitude.{zero64}
-use Rattle.combination.specs.Selectors.{itemOf}
-use Rattle.combination.specs.Combination.{weigh, weighed, nonzeroAt, nonzeros, adjointAt, table}
-use Rattle.combination.specs.Passes.{place, Below, Passed, weighedAt, Segments}
-use Rattle.combination.specs.Gathering.{span, passedRows, Filling, Summed}
-use Rattle.combination.proofs.Walked.{not-reached}
+use Rattle.sparse.specs.Sparse.{zero64, itemOf}
+use Rattle.weighing.specs.Weighing.{weigh, weighed, nonzeroAt}
+use Rattle.weighing.specs.Passes.{place, Below, Passed, weighedAt, Segments}
+use Rattle.weighing.specs.Gathering.{span, passedRows, Filling}
+use Rattle.combination.specs.Combination.{nonzeros, adjointAt, table}
+use Rattle.combination.specs.Summed.{Summed}
+use Rattle.weighing.proofs.Walked.{not-reached}
 use Rattle.combination.proofs.Tables.{unique, item-inside, adjoint-place, scaled-table}
 
 -- the buffer's segments

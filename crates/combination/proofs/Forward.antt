@@ -7,11 +7,11 @@ use native.Mathlib.Omega.{arith}
 use lib.ListN.{length, getD, replicate, getD-replicate}
 use lib.Ieee.{Float, binary64, nan, mul}
 use Rattle.lists.specs.UpTo.{listed}
-use Rattle.combination.specs.Magnitude.{zero64}
-use Rattle.combination.specs.Selectors.{itemsOf, itemOf}
-use Rattle.combination.specs.Combination.{weighed, forwardAt, table}
-use Rattle.combination.specs.Passes.{place, Below, Passed, weighedAt, Segments}
-use Rattle.combination.proofs.Fits.{Selected}
+use Rattle.sparse.specs.Sparse.{zero64, itemsOf, itemOf}
+use Rattle.weighing.specs.Weighing.{weighed}
+use Rattle.weighing.specs.Passes.{place, Below, Passed, weighedAt, Segments}
+use Rattle.combination.specs.Combination.{forwardAt, table}
+use Rattle.sparse.proofs.Fits.{Selected}
 use Rattle.combination.proofs.Tables.{item-inside, forward-place, scaled-table}
 
 -- a selector's items are segments

@@ -1,14 +1,4 @@
-pub mod Larger
 pub mod Fits
-pub mod Places
-pub mod Regular
-pub mod Passed
-pub mod Turned
-pub mod Cells
-pub mod Rows
-pub mod Buffer
-pub mod Filled
-pub mod Walked
 pub mod Tables
 pub mod Forward
 pub mod Adjoint

@@ -11,8 +11,8 @@ use lib.Seq.{getD-append-add, ext-getD}
 use lib.Ieee.{Float, binary64, nan, mul}
 use Rattle.lists.specs.UpTo.{upTo, each, listed}
 use Rattle.lists.proofs.Listed.{listed-length, listed-at}
+use Rattle.weighing.specs.Passes.{place, Below, Spread}
 use Rattle.combination.specs.Combination.{table}
-use Rattle.combination.specs.Passes.{place, Below, Spread}
 
 -- one place, one item and column
 pub unique : (n o k o′ k′ : ℕ) → k < n → k′ < n → o * n + k ≡ o′ * n + k′ → (o ≡ o′) × (k ≡ k′)

@@ -1,30 +1,17 @@
 -- Both combinations of `forward_adjoint` (sens/mod.rs) from a given solution.
-use Prim.Native.Nat.{ℕ, _+_, _*_}
-use mathlib.Core.List.{List, [], _∷_}
-use lib.ListN.{getD}
-use lib.Ieee.{Float, binary64, nan, ne, add, mul}
-use Rattle.lists.specs.UpTo.{each, listed, when}
-use Rattle.lists.specs.Steps.{through}
-use Rattle.lists.specs.Entries.{Cell, cell}
+use Prim.Native.Nat.{ℕ, _*_}
+use mathlib.Core.List.{List, []}
+use lib.Ieee.{Float, binary64, mul}
+use Rattle.lists.specs.UpTo.{each, listed}
+use Rattle.lists.specs.Entries.{Cell}
 use Rattle.interface.specs.declared.Mode.{Mode}
 use Rattle.interface.specs.declared.Mode.the-variants.{Forward, Adjoint, Auto}
-use Rattle.combination.specs.Magnitude.{zero64}
-use Rattle.combination.specs.Selectors.{itemsOf, itemOf}
-
--- `acc += w * x[(r, c)]`, the column of x beginning at base
-unfoldable pub weigh : List Float → ℕ → Cell → Float → Float
-weigh x base t a = add binary64 a (mul binary64 (t .val) (getD x (base + t .row) nan))
-
-unfoldable pub weighed : List Float → ℕ → List Cell → Float → Float
-weighed x base ts a = through (weigh x base) ts a
+use Rattle.sparse.specs.Sparse.{zero64, itemsOf, itemOf}
+use Rattle.weighing.specs.Weighing.{weighed, nonzeroAt}
 
 -- forward: `let mut acc = 0.0; for &(r, w) in entries ..; sign * acc`
 unfoldable pub forwardAt : ℕ → List ℕ → List ℕ → List Float → Float → List Float → ℕ → ℕ → Float
 forwardAt dim starts rows weights sign x o c = mul binary64 sign (weighed x (c * dim) (itemOf starts rows weights o) zero64)
-
--- `(v != 0.0).then_some((r, v))`
-abbrev pub nonzeroAt : List Float → ℕ → ℕ → List Cell
-nonzeroAt rhs base r = when (ne (getD rhs (base + r) nan) zero64) (cell r (getD rhs (base + r) nan) ∷ [])
 
 -- `cols_nnz[c]`, the column beginning at base
 unfoldable pub nonzeros : ℕ → List Float → ℕ → List Cell

@@ -1,17 +1,17 @@
 // Both combinations of `forward_adjoint` from a given solution.
-use crate::gather::fill;
-use crate::weigh::weigh_all;
 use lists::inner::fill_f64;
+use weighing::inner::gather::fill;
+use weighing::inner::weigh::weigh_all;
 ghost use mathlib.Core.Path.{_≡_};
 ghost use mathlib.Core.Bool.{true};
 ghost use Prim.Native.Nat.{ℕ, _+_, _*_, _≤_, _<_};
 ghost use lib.Ieee.{binary64, nan, mul};
 ghost use lib.ListN.{length, getD};
 ghost use Rattle.lists.specs.UpTo.{listed};
-ghost use Rattle.combination.specs.Selectors.{itemsOf};
+ghost use Rattle.sparse.specs.Sparse.{itemsOf};
+ghost use Rattle.sparse.specs.Checks.{selectorFits};
 ghost use Rattle.combination.specs.Combination.{forwardAt, adjointAt, table};
-ghost use Rattle.combination.specs.Checks.{selectorFits};
-ghost use Rattle.combination.specs.Gathering.{Summed};
+ghost use Rattle.combination.specs.Summed.{Summed};
 
 // Each element times the sign.
 fn scale(out: &mut [f64], sign: f64)

@@ -1,7 +1,4 @@
 // `forward_adjoint` without its solve: the checks, and the direction that the mode names.
-use crate::checks::bounded;
-use crate::checks::items_of;
-use crate::checks::selector_fits;
 use crate::combine::adjoint_into;
 use crate::combine::forward_into;
 use interface::Mode;
@@ -11,13 +8,16 @@ use refusals::Written;
 use refusals::is_refused;
 use refusals::room_for;
 use refusals::written_if;
+use sparse::inner::bounded;
+use sparse::inner::items_of;
+use sparse::inner::selector_fits;
 ghost use mathlib.Core.Path.{_≡_};
 ghost use mathlib.Core.Bool.{true};
 ghost use Prim.Native.Nat.{_*_, _≤_};
 ghost use lib.ListN.{length};
 ghost use Rattle.refusals.specs.Refusals.{writtenIf, leftIn};
 ghost use Rattle.interface.specs.declared.Mode.the-variants.{Forward, Adjoint};
-ghost use Rattle.combination.specs.Selectors.{itemsOf};
+ghost use Rattle.sparse.specs.Sparse.{itemsOf};
 ghost use Rattle.combination.specs.Combination.{combination};
 ghost use Rattle.combination.specs.Checks.{concrete, combinationFits, combinationCheck};
 

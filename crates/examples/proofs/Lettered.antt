@@ -7,7 +7,7 @@ use Rattle.records.specs.Bytes.{le16, le32, le64}
 use Rattle.records.specs.Fields.{kindOf, flagsOf, countOf, idOf, firstOf, secondOf, bitsOf, floatOf, bit0, bit1, gOf, bOf, gFrOf, bFrOf, gToOf, bToOf, tapOf, limitedOf, piecewiseOf, segmentsOf, angledOf}
 use Rattle.records.specs.Network.{branchOf, segmentRecord}
 use Rattle.records.specs.Check.{countCause, lengthCause, zeroFloats, busForm, branchForm, genForm, segmentForm, busCause, branchCause, genCause, segmentCause, pick, recordCause, recordCauses, countSum, sumCause, checkOf}
-use Rattle.numbering.specs.Lookups.{asked, columnAsked, rowAsked}
+use Rattle.lookups.specs.Lookups.{asked, columnAsked, rowAsked}
 use Rattle.rows.specs.Rows.{kept, terms, b}
 use Rattle.rows.specs.Program.{quadratic, sumOf, slack}
 use Rattle.kkt.specs.Kkt.{kktOf, kkt}

@@ -13,7 +13,8 @@ use Rattle.records.specs.AcNetwork.{AcNetwork}
 use Rattle.records.specs.Network.{networkOf}
 use Rattle.records.specs.Check.{countCause, checkOf}
 use Rattle.numbering.specs.Numbering.{nvar, ncon, coneLengths, columnNumber, columnKey, rowKey}
-use Rattle.numbering.specs.Lookups.{lookupNumber, lookupValue, columnAsked, rowAsked}
+use Rattle.numbering.specs.Lookups.{lookupNumber, lookupValue}
+use Rattle.lookups.specs.Lookups.{columnAsked, rowAsked}
 use Rattle.numbering.specs.declared.Lookup.{Lookup}
 use Rattle.numbering.specs.declared.ColumnName.the-variants.{W, Wr, CostOf}
 use Rattle.numbering.specs.declared.RowName.the-variants.{OhmPf, Wub, Wlb, Angub, Anglb, Segment}

@@ -12,10 +12,10 @@ use Rattle.numbering.specs.Lookups.{lookupNumber, lookupValue}
 use Rattle.numbering.specs.declared.Key.{Key}
 use Rattle.numbering.specs.declared.Lookup.{Lookup}
 use Rattle.numbering.specs.declared.SocWrLayout.{SocWrLayout}
-use Rattle.numbering.specs.declared.ColumnAnswer.{ColumnAnswer}
-use Rattle.numbering.specs.declared.ColumnAnswer.the-variants as ColumnAnswer
-use Rattle.numbering.specs.declared.RowAnswer.{RowAnswer}
-use Rattle.numbering.specs.declared.RowAnswer.the-variants as RowAnswer
+use Rattle.names.specs.declared.ColumnAnswer.{ColumnAnswer}
+use Rattle.names.specs.declared.ColumnAnswer.the-variants as ColumnAnswer
+use Rattle.names.specs.declared.RowAnswer.{RowAnswer}
+use Rattle.names.specs.declared.RowAnswer.the-variants as RowAnswer
 use Rattle.kernel.specs.declared.Answer.{Answer}
 use Rattle.kernel.specs.declared.numbers.Sizes.{Sizes}
 use Rattle.kernel.specs.declared.numbers.Name.{Name}

@@ -22,10 +22,13 @@ ghost use Rattle.refusals.specs.Refusals.{writtenIf, leftIn};
 ghost use Rattle.interface.specs.Codes.{parameterAt, operandAt, modeAt};
 ghost use Rattle.interface.specs.Selectors.{unitStarts, unitWeights, selectorCheck};
 ghost use Rattle.reading.specs.declared.Scalar.the-variants.{Value};
-ghost use Rattle.combination.specs.Checks.{residualCheck, transposeCheck, matrixCheck};
-ghost use Rattle.combination.specs.Magnitude.{maxAbs};
-ghost use Rattle.combination.specs.Residual.{entries, transposed, residual as residualOf};
-ghost use Rattle.combination.specs.Selectors.{itemsOf, selectorMatrix};
+ghost use Rattle.sparse.specs.Sparse.{entries, itemsOf};
+ghost use Rattle.residual.specs.Magnitude.{maxAbs};
+ghost use Rattle.residual.specs.Residual.{residual as residualOf};
+ghost use Rattle.residual.specs.Checks.{residualCheck};
+ghost use Rattle.adjoint.specs.Transposes.{transposed};
+ghost use Rattle.adjoint.specs.Selectors.{selectorMatrix};
+ghost use Rattle.adjoint.specs.Checks.{transposeCheck, matrixCheck};
 ghost use Rattle.interface.specs.declared.codes.OperandCode.the-variants as OperandCode;
 ghost use Rattle.kernel.specs.Answers.{WrittenAnswer};
 ghost use Rattle.kernel.specs.Scalars.{ScalarAnswer};
@@ -84,7 +87,7 @@ pub extern "C" fn socwr_selector_new(
 pub extern "C" fn socwr_max_abs(matrix: &[f64]) -> Scalar
     ensures { λ r. ⌜ ScalarAnswer (Value (maxAbs (now (matrix .entry)))) r ⌝ }
 {
-    scalar_answer(reading::Scalar::Value(combination::max_abs(matrix)))
+    scalar_answer(reading::Scalar::Value(residual::max_abs(matrix)))
 }
 
 #[no_mangle]
@@ -102,7 +105,7 @@ pub extern "C" fn socwr_residual(
     ensures { λ r. ⌜ WrittenAnswer (writtenIf (residualCheck dim columns (now (rows .entry)) (now (cols .entry)) (now (values .entry)) (now (rhs .entry)) (now (answer .entry)) (length (now (out .entry)))) (dim * columns)) r ⌝ }
     ensures { λ _. ⌜ now (out .exit) ≡ leftIn (residualCheck dim columns (now (rows .entry)) (now (cols .entry)) (now (values .entry)) (now (rhs .entry)) (now (answer .entry)) (length (now (out .entry)))) (residualOf dim columns (entries (now (rows .entry)) (now (cols .entry)) (now (values .entry))) eps (now (rhs .entry)) (now (answer .entry))) (now (out .entry)) ⌝ }
 {
-    let w = combination::residual(
+    let w = residual::residual(
         dim as usize,
         columns as usize,
         rows,
@@ -131,7 +134,7 @@ pub extern "C" fn socwr_transpose(
     ensures { λ _. ⌜ now («out_cols» .exit) ≡ leftIn (transposeCheck dim (now (rows .entry)) (now (cols .entry)) (now (values .entry)) (length (now («out_rows» .entry))) (length (now («out_cols» .entry))) (length (now («out_values» .entry)))) (map colOf (transposed (entries (now (rows .entry)) (now (cols .entry)) (now (values .entry))))) (now («out_cols» .entry)) ⌝ }
     ensures { λ _. ⌜ now («out_values» .exit) ≡ leftIn (transposeCheck dim (now (rows .entry)) (now (cols .entry)) (now (values .entry)) (length (now («out_rows» .entry))) (length (now («out_cols» .entry))) (length (now («out_values» .entry)))) (map valOf (transposed (entries (now (rows .entry)) (now (cols .entry)) (now (values .entry))))) (now («out_values» .entry)) ⌝ }
 {
-    let w = combination::transpose(
+    let w = adjoint::transpose(
         dim as usize,
         rows,
         cols,
@@ -154,7 +157,7 @@ pub extern "C" fn socwr_selector_matrix(
     ensures { λ r. ⌜ WrittenAnswer (writtenIf (matrixCheck dim (now (starts .entry)) (now (rows .entry)) (now (weights .entry)) (length (now (out .entry)))) (dim * itemsOf (now (starts .entry)))) r ⌝ }
     ensures { λ _. ⌜ now (out .exit) ≡ leftIn (matrixCheck dim (now (starts .entry)) (now (rows .entry)) (now (weights .entry)) (length (now (out .entry)))) (selectorMatrix dim (now (starts .entry)) (now (rows .entry)) (now (weights .entry))) (now (out .entry)) ⌝ }
 {
-    let w = combination::selector_matrix(dim as usize, starts, rows, weights, out);
+    let w = adjoint::selector_matrix(dim as usize, starts, rows, weights, out);
     written_answer(w)
 }
 

@@ -4,15 +4,15 @@ use crate::checked_answer;
 use crate::checked_number;
 use crate::checked_value;
 use crate::written_answer;
-use numbering::ColumnAnswer;
+use lookups::numbers;
+use names::ColumnAnswer;
+use names::RowAnswer;
+use names::keys;
+use names::named;
 use numbering::Key;
 use numbering::Lookup;
-use numbering::RowAnswer;
 use numbering::SocWrLayout;
 use numbering::inner;
-use numbering::keys;
-use numbering::lookups;
-use numbering::named;
 use refusals::Checked;
 use refusals::is_refused;
 use refusals::number_of;
@@ -25,7 +25,9 @@ ghost use Rattle.records.specs.Network.{networkOf};
 ghost use Rattle.numbering.specs.Blocks.{key};
 ghost use Rattle.numbering.specs.Numbering.{SameKey, coneLengths};
 ghost use Rattle.numbering.specs.Layout.{InRange, layoutOf};
-ghost use Rattle.numbering.specs.Lookups.{lookupNumber, lookupValue, columnLookup, rowLookup, columnAnswerNumber, columnAnswerValue, columnNamed, rowAnswerNumber, rowAnswerValue, rowNamed, conesCheck, coneCount};
+ghost use Rattle.numbering.specs.Lookups.{lookupNumber, lookupValue, conesCheck, coneCount};
+ghost use Rattle.names.specs.Named.{columnAnswerNumber, columnAnswerValue, columnNamed, rowAnswerNumber, rowAnswerValue, rowNamed};
+ghost use Rattle.lookups.specs.Lookups.{columnLookup, rowLookup};
 ghost use Rattle.kernel.specs.Answers.{CheckedAnswer, WrittenAnswer, LookupAnswer, SizesAnswer, NoSizes, columnAnswerKey, rowAnswerKey, NameAnswer};
 
 #[repr(C)]
@@ -140,7 +142,7 @@ pub extern "C" fn socwr_column_number(
 ) -> Answer
     ensures { λ r. ⌜ LookupAnswer (columnLookup n m k s (now (records .entry)) (key block index 0)) r ⌝ }
 {
-    lookup_answer(lookups::column_number_at(
+    lookup_answer(numbers::column_number_at(
         n as usize,
         m as usize,
         k as usize,
@@ -165,7 +167,7 @@ pub extern "C" fn socwr_row_number(
 ) -> Answer
     ensures { λ r. ⌜ LookupAnswer (rowLookup n m k s (now (records .entry)) (key block index place)) r ⌝ }
 {
-    lookup_answer(lookups::row_number_at(
+    lookup_answer(numbers::row_number_at(
         n as usize,
         m as usize,
         k as usize,

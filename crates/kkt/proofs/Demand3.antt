@@ -17,7 +17,7 @@ use Rattle.refusals.specs.declared.Checked.the-variants as Checked
 use Rattle.numbering.specs.declared.RowName.{RowName}
 use Rattle.records.proofs.Laws.{accepted}
 use Rattle.records.proofs.Sound.{Sound, sound}
-use Rattle.numbering.proofs.Theorem.{numbered}
+use Rattle.lookups.proofs.Theorem.{numbered}
 use Rattle.kkt.proofs.KktCount.{kkt-count}
 use Rattle.kkt.proofs.KktPlaces.{kkt-once, kkt-twice, kkt-inside}
 

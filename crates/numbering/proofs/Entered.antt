@@ -18,11 +18,13 @@ use Rattle.refusals.specs.declared.Refusal.the-variants.{PastEnd}
 use Rattle.refusals.proofs.Laws.{passed}
 use Rattle.numbering.specs.Blocks.{Block, alike, size, records, start, blockAt, before, numberOf, key}
 use Rattle.numbering.specs.Layout.{layoutCause, layoutColumns, layoutRows, columnSizes, rowSizes, startIn, InRange}
-use Rattle.numbering.specs.Lookups.{afterCheck, inLayout}
+use Rattle.numbering.specs.Lookups.{afterCheck, inLayout, layoutAnswer}
 use Rattle.numbering.specs.declared.Lookup.{Lookup}
 use Rattle.numbering.specs.declared.Lookup.the-variants.{Absent}
 use Rattle.numbering.specs.declared.Lookup.the-variants as Lookup
 use Rattle.numbering.specs.declared.SocWrLayout.{SocWrLayout}
+use Rattle.numbering.specs.declared.LayoutAnswer.{LayoutAnswer}
+use Rattle.numbering.specs.declared.LayoutAnswer.the-variants as LayoutAnswer
 use Rattle.numbering.proofs.Points.{before-next}
 
 -- ---- a check c that is d: refused, whatever else would be answered; or passed
@@ -40,6 +42,19 @@ gone-on {c} e h = sym e ∙ passed c h
 pub answered : {d : Checked} (a : Lookup) → d ≡ Accepted → a ≡ afterCheck d a
 unfolding afterCheck
 answered a e = rw e
+
+-- the same of a layout
+layout-alike : (c : Checked) (x y : SocWrLayout) → isRefused c ≡ true → layoutAnswer c x ≡ layoutAnswer c y
+unfolding layoutAnswer isRefused
+layout-alike Accepted x y h = absurd (subst T (sym h) tt)
+layout-alike (Refused cause) x y h = refl
+
+pub layout-stopped : {r : LayoutAnswer} {c d : Checked} (x y : SocWrLayout) → r ≡ layoutAnswer c x → c ≡ d → isRefused c ≡ true → r ≡ layoutAnswer d y
+layout-stopped {r} {c} {d} x y p q h = p ∙ layout-alike c x y h ∙ ap (λ (a : Checked). layoutAnswer a y) q
+
+pub layout-given : {d : Checked} (x y : SocWrLayout) → d ≡ Accepted → x ≡ y → LayoutAnswer.Layout x ≡ layoutAnswer d y
+unfolding layoutAnswer
+layout-given x y e q = rw (e, q)
 
 -- ---- the first c blocks have these lengths
 abbrev pub Sizes : List Block → List ℕ → ℕ → Type 0

@@ -4,9 +4,5 @@ pub mod Laid
 pub mod Points
 pub mod Names
 pub mod Entered
-pub mod Asked
-pub mod Standing
-pub mod Answers
 pub mod ConeLengths
-pub mod Theorem
 pub mod OnePass

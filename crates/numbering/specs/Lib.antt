@@ -4,4 +4,3 @@ pub mod Layout
 pub mod Laid
 pub mod Tally
 pub mod Lookups
-pub mod Numbered

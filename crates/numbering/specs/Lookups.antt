@@ -1,23 +1,21 @@
 -- What the entries of the numbering answer.
 use Prim.Native.Nat.{ℕ, _+_, _*_, min}
 use mathlib.Core.Path.{_≡_}
-use mathlib.Core.Bool.{Bool, true, false, cond}
-use mathlib.Core.List.{List, [], _∷_, _++_}
-use lib.Dec.{eqb, ltb}
+use mathlib.Core.Bool.{Bool, true, false}
+use mathlib.Core.List.{List, _∷_, _++_}
+use lib.Dec.{ltb}
 use lib.ListN.{length, replicate}
-use lib.Ieee.{Float}
 use Rattle.lists.specs.UpTo.{count}
-use Rattle.refusals.specs.Refusals.{_orElse_, refuseUnless, roomFor, numberOf as causeNumber, valueOf as causeValue}
+use Rattle.refusals.specs.Refusals.{_orElse_, roomFor, numberOf as causeNumber, valueOf as causeValue}
 use Rattle.refusals.specs.declared.Checked.{Checked}
 use Rattle.refusals.specs.declared.Checked.the-variants.{Accepted, Refused}
-use Rattle.refusals.specs.declared.Refusal.{Refusal}
 use Rattle.refusals.specs.declared.Refusal.the-variants.{PastEnd}
 use Rattle.records.specs.AcNetwork.{AcNetwork}
 use Rattle.records.specs.Network.{networkOf}
 use Rattle.records.specs.Check.{checkOf}
 use Rattle.records.specs.Counts.{ifAccepted}
-use Rattle.numbering.specs.Blocks.{Block, records, points, blockAt, before, total, numberOf}
-use Rattle.numbering.specs.Numbering.{limits, curves, columnKey, columnBlocks, columnAt, nvar, rowKey, rowBlocks, rowAt, ncon}
+use Rattle.numbering.specs.Blocks.{Block, records, blockAt, numberOf}
+use Rattle.numbering.specs.Numbering.{limits, curves, columnKey, rowKey}
 use Rattle.numbering.specs.Layout.{layoutOf, layoutCause, layoutColumns, layoutRows, nEqOf, nIneqOf}
 use Rattle.numbering.specs.declared.Key.{Key}
 use Rattle.numbering.specs.declared.ColumnName.{ColumnName}
@@ -28,10 +26,6 @@ use Rattle.numbering.specs.declared.Lookup.the-variants as Lookup
 use Rattle.numbering.specs.declared.CheckedLayout.{CheckedLayout}
 use Rattle.numbering.specs.declared.LayoutAnswer.{LayoutAnswer}
 use Rattle.numbering.specs.declared.LayoutAnswer.the-variants as LayoutAnswer
-use Rattle.numbering.specs.declared.ColumnAnswer.{ColumnAnswer}
-use Rattle.numbering.specs.declared.ColumnAnswer.the-variants as ColumnAnswer
-use Rattle.numbering.specs.declared.RowAnswer.{RowAnswer}
-use Rattle.numbering.specs.declared.RowAnswer.the-variants as RowAnswer
 
 -- ---- the number and the value of an answer: a number's is 0 and the number, None's 0 and 2⁶⁴ - 1, a refusal's the cause's
 abbrev pub noneValue : ℕ
@@ -71,74 +65,6 @@ rowIn l x = inLayout l (layoutRows l) (rowKey x)
 -- a size that the counts give
 abbrev pub sizeIn : SocWrLayout → ℕ → Lookup
 sizeIn l p = afterCheck (layoutCause l) (Lookup.Number p)
-
--- ---- numbers on counts and records: the record check, then 7. "A lookup with the index of a branch without limit, or of a generator
--- without cost column, answers None. With a cost column, a segment not below its generator's count is 7 and returns the segment; the
--- generator's index is tested first." A block that there is none of is 7 too, before the index.
-unfoldable pub asked : List Block → Bool → Key → Lookup
-asked bs has x =
-    pickLookup (ltb (x .block) (length bs))
-    (pickLookup (ltb (x .item) (records (blockAt bs (x .block))))
-    (pickLookup has
-    (pickLookup (ltb (x .place) (points (blockAt bs (x .block)) (x .item))) (Lookup.Number (numberOf bs x)) (Lookup.Refused (PastEnd (x .place))))
-    Lookup.Absent)
-    (Lookup.Refused (PastEnd (x .item))))
-    (Lookup.Refused (PastEnd (x .block)))
-
-module _ {A : Type 0} (G : AcNetwork A) where
-  -- the generator has a cost column (blocks cost), the branch a limit (block thermal)
-  abbrev pub columnHas : Key → Bool
-  columnHas x = cond (eqb (x .block) 9) (G .piecewise (x .item)) true
-
-  abbrev pub rowHas : Key → Bool
-  rowHas x = cond (eqb (x .block) 14) (G .piecewise (x .item)) (cond (eqb (x .block) 16) (G .limited (x .item)) true)
-
-  unfoldable pub columnAsked : Key → Lookup
-  columnAsked x = asked (columnBlocks G) (columnHas x) x
-
-  unfoldable pub rowAsked : Key → Lookup
-  rowAsked x = asked (rowBlocks G) (rowHas x) x
-
-module _ (n m k s : ℕ) (b : List ℕ) where
-  abbrev pub columnLookup : Key → Lookup
-  columnLookup x = afterCheck (checkOf n m k s b) (columnAsked (networkOf n m k s b) x)
-
-  abbrev pub rowLookup : Key → Lookup
-  rowLookup x = afterCheck (checkOf n m k s b) (rowAsked (networkOf n m k s b) x)
-
--- ---- "Added: the name of a given row or column number"; 7 "row or column number past the end"
-unfoldable pub columnAnswer : Checked → ColumnName → ColumnAnswer
-columnAnswer Accepted x = ColumnAnswer.Column x
-columnAnswer (Refused cause) x = ColumnAnswer.Refused cause
-
-unfoldable pub rowAnswer : Checked → RowName → RowAnswer
-rowAnswer Accepted x = RowAnswer.Row x
-rowAnswer (Refused cause) x = RowAnswer.Refused cause
-
--- the number and the value of such an answer; a name's are 0 and 0
-abbrev pub columnAnswerNumber : ColumnAnswer → ℕ
-columnAnswerNumber (ColumnAnswer.Column x) = 0
-columnAnswerNumber (ColumnAnswer.Refused cause) = causeNumber cause
-
-abbrev pub columnAnswerValue : ColumnAnswer → ℕ
-columnAnswerValue (ColumnAnswer.Column x) = 0
-columnAnswerValue (ColumnAnswer.Refused cause) = causeValue cause
-
-abbrev pub rowAnswerNumber : RowAnswer → ℕ
-rowAnswerNumber (RowAnswer.Row x) = 0
-rowAnswerNumber (RowAnswer.Refused cause) = causeNumber cause
-
-abbrev pub rowAnswerValue : RowAnswer → ℕ
-rowAnswerValue (RowAnswer.Row x) = 0
-rowAnswerValue (RowAnswer.Refused cause) = causeValue cause
-
-module _ (n m k s : ℕ) (b : List ℕ) where
-  unfoldable pub columnNamed : ℕ → ColumnAnswer
-  columnNamed p =
-      columnAnswer (checkOf n m k s b orElse refuseUnless (ltb p (nvar (networkOf n m k s b))) (PastEnd p)) (columnAt (networkOf n m k s b) p)
-
-  unfoldable pub rowNamed : ℕ → RowAnswer
-  rowNamed p = rowAnswer (checkOf n m k s b orElse refuseUnless (ltb p (ncon (networkOf n m k s b))) (PastEnd p)) (rowAt (networkOf n m k s b) p)
 
 -- ---- `SocWrLayout::new`
 unfoldable pub layoutAnswer : Checked → SocWrLayout → LayoutAnswer

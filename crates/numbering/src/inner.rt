@@ -3,7 +3,6 @@ use crate::SocWrLayout;
 use crate::Tally;
 
 pub mod blocks;
-pub mod names;
 pub mod tally;
 
 ghost use mathlib.Core.Path.{_≡_};

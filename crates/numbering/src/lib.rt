@@ -4,10 +4,7 @@ use refusals::Refusal;
 
 pub mod cones;
 pub mod inner;
-pub mod keys;
 pub mod layout;
-pub mod lookups;
-pub mod named;
 
 // A point of a row of things that have several points each: the thing, and the place in it.
 pub struct Place {
@@ -91,14 +88,4 @@ pub struct CheckedLayout {
     pub check: Checked,
     pub layout: SocWrLayout,
     pub before: usize,
-}
-
-pub enum ColumnAnswer {
-    Column(ColumnName),
-    Refused(Refusal),
-}
-
-pub enum RowAnswer {
-    Row(RowName),
-    Refused(Refusal),
 }

@@ -4,17 +4,18 @@ use native.Mathlib.Omega.{arith}
 use borrow.Author.Needs.{needs}
 use denote.Ref.{now}
 use lib.ListN.{length}
-use Rattle.combination.specs.Gathering.{passedRows, Summed}
-use Rattle.combination.proofs.Places.{inside}
-use Rattle.combination.proofs.Walked.{passed-before}
+use Rattle.weighing.specs.Gathering.{passedRows}
+use Rattle.combination.specs.Summed.{Summed}
+use Rattle.sparse.proofs.Places.{inside}
+use Rattle.weighing.proofs.Walked.{passed-before}
 use Rattle.combination.proofs.Tables.{spread-adjoint}
 use Rattle.combination.proofs.Adjoint.{segments-filled, summed-none, summed-empty, summed-more, summed-same}
 use Rattle.combination.proofs.combine.add_columns.Statement.{statement}
 use Rattle.combination.proofs.combine.add_columns.Tie as tie
 use Rattle.combination.proofs.combine.add_columns.Reads as reads
 use Rattle.combination.proofs.combine.add_columns.Lts as lts
-use Rattle.combination.proofs.gather.fill.Reads as fill-reads
-use Rattle.combination.proofs.weigh.weigh_all.Reads as weigh-all-reads
+use Rattle.weighing.proofs.inner.gather.fill.Reads as fill-reads
+use Rattle.weighing.proofs.inner.weigh.weigh_all.Reads as weigh-all-reads
 
 abbrev Inv-loop : tie.InvT-loop
 Inv-loop out₀ dim columns items rhs y starts₀ rows₀ values₀ c₀ r₀ out starts rows values c r = (c ≤ columns) × (r < dim) × (length starts ≡ 9) × (length rows ≡ 512) × (length values ≡ 512) × Summed items columns dim rhs y (passedRows dim c r) out₀ out

@@ -4,8 +4,8 @@ use native.Mathlib.Omega.{arith}
 use denote.Ref.{now}
 use lib.ListN.{length, replicate}
 use Rattle.lists.proofs.Overlay.{filled-whole}
-use Rattle.combination.specs.Magnitude.{zero64}
-use Rattle.combination.proofs.Fits.{selected}
+use Rattle.sparse.specs.Sparse.{zero64}
+use Rattle.sparse.proofs.Fits.{selected}
 use Rattle.combination.proofs.Tables.{spread-forward}
 use Rattle.combination.proofs.Forward.{segments-of, forward-table}
 use borrow.Author.Needs.{needs}
@@ -14,7 +14,7 @@ use Rattle.combination.proofs.combine.forward_into.Tie as tie
 use Rattle.combination.proofs.combine.forward_into.Reads as reads
 use Rattle.combination.proofs.combine.forward_into.Lts as lts
 use Rattle.combination.proofs.combine.scale.Reads as scale-reads
-use Rattle.combination.proofs.weigh.weigh_all.Reads as weigh-all-reads
+use Rattle.weighing.proofs.inner.weigh.weigh_all.Reads as weigh-all-reads
 use Rattle.lists.proofs.inner.fill_f64.Reads as fill-f64-reads
 
 -- src/combine.rt:39:5

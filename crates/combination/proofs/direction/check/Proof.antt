@@ -8,7 +8,7 @@ use Rattle.combination.proofs.direction.check.Statement.{statement}
 use Rattle.combination.proofs.direction.check.Tie as tie
 use Rattle.combination.proofs.direction.check.Reads as reads
 use Rattle.combination.proofs.direction.check.Lts as lts
-use Rattle.combination.proofs.checks.items_of.Reads as items-of-reads
+use Rattle.sparse.proofs.inner.items_of.Reads as items-of-reads
 use Rattle.combination.proofs.direction.fits.Reads as fits-reads
 use Rattle.combination.proofs.direction.is_concrete.Reads as is-concrete-reads
 use Rattle.refusals.proofs.room_for.Reads as room-for-reads

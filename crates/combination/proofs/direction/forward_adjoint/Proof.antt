@@ -4,13 +4,13 @@ use native.Mathlib.Omega.{arith}
 use lib.Seq.{length-take-le}
 use Rattle.refusals.proofs.Laws.{accepted-by, refuses, writes}
 use Rattle.combination.proofs.Fits.{cells}
-use Rattle.combination.proofs.Passed.{combination-ready}
+use Rattle.combination.proofs.Fits.{combination-ready}
 use borrow.Author.Needs.{needs}
 use Rattle.combination.proofs.direction.forward_adjoint.Statement.{statement}
 use Rattle.combination.proofs.direction.forward_adjoint.Tie as tie
 use Rattle.combination.proofs.direction.forward_adjoint.Reads as reads
 use Rattle.combination.proofs.direction.forward_adjoint.Lts as lts
-use Rattle.combination.proofs.checks.items_of.Reads as items-of-reads
+use Rattle.sparse.proofs.inner.items_of.Reads as items-of-reads
 use Rattle.combination.proofs.direction.check.Reads as check-reads
 use Rattle.combination.proofs.direction.combine_into.Reads as combine-into-reads
 use Rattle.refusals.proofs.is_refused.Reads as is-refused-reads

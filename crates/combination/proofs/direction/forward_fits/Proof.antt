@@ -1,14 +1,14 @@
 use mathlib.Core.Path.{_≡_, sym, _∙_}
 use native.Mathlib.Omega.{arith}
 use Rattle.combination.specs.Checks.{combinationFits}
-use Rattle.combination.proofs.Fits.{bounds, size}
+use Rattle.sparse.proofs.Fits.{bounds, size}
 use borrow.Author.Needs.{needs}
 use Rattle.combination.proofs.direction.forward_fits.Statement.{statement}
 use Rattle.combination.proofs.direction.forward_fits.Tie as tie
 use Rattle.combination.proofs.direction.forward_fits.Reads as reads
 use Rattle.combination.proofs.direction.forward_fits.Lts as lts
-use Rattle.combination.proofs.checks.bounded.Reads as bounded-reads
-use Rattle.combination.proofs.checks.selector_fits.Reads as selector-fits-reads
+use Rattle.sparse.proofs.inner.bounded.Reads as bounded-reads
+use Rattle.sparse.proofs.inner.selector_fits.Reads as selector-fits-reads
 
 -- src/direction.rt:27:8
 bounded-requires : tie.Need-bounded-requires

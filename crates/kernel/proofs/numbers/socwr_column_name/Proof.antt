@@ -1,6 +1,6 @@
 -- `kernel::numbers::socwr_column_name` meets its contract. Assumes nothing.
 use mathlib.Core.Path.{ap, _∙_}
-use Rattle.numbering.specs.Lookups.{columnAnswerNumber, columnAnswerValue}
+use Rattle.names.specs.Named.{columnAnswerNumber, columnAnswerValue}
 use Rattle.kernel.specs.Answers.{columnAnswerKey}
 use borrow.Author.Needs.{needs}
 use Rattle.kernel.proofs.numbers.socwr_column_name.Statement.{statement}

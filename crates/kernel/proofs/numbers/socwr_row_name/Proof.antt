@@ -1,6 +1,6 @@
 -- `kernel::numbers::socwr_row_name` meets its contract. Assumes nothing.
 use mathlib.Core.Path.{ap, _∙_}
-use Rattle.numbering.specs.Lookups.{rowAnswerNumber, rowAnswerValue}
+use Rattle.names.specs.Named.{rowAnswerNumber, rowAnswerValue}
 use Rattle.kernel.specs.Answers.{rowAnswerKey}
 use borrow.Author.Needs.{needs}
 use Rattle.kernel.proofs.numbers.socwr_row_name.Statement.{statement}

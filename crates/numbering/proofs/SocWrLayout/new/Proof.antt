@@ -3,7 +3,7 @@ use mathlib.Core.Path.{sym, _∙_}
 use Rattle.refusals.proofs.Laws.{accepted-by}
 use Rattle.records.proofs.Laws.{accepted}
 use Rattle.numbering.specs.Layout.{countedOf}
-use Rattle.numbering.proofs.Answers.{layout-stopped, layout-given}
+use Rattle.numbering.proofs.Entered.{layout-stopped, layout-given}
 use borrow.Author.Needs.{needs}
 use Rattle.numbering.proofs.SocWrLayout.new.Statement.{statement}
 use Rattle.numbering.proofs.SocWrLayout.new.Tie as tie

@@ -1,0 +1,3 @@
+pub mod Transposes
+pub mod Selectors
+pub mod Checks

@@ -1,0 +1,2 @@
+// The number of a name, on counts and records.
+pub mod numbers;

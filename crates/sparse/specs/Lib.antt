@@ -1,0 +1,2 @@
+pub mod Sparse
+pub mod Checks

@@ -1,0 +1,3 @@
+// Segments of terms by each column, and nonzero values gathered to segments.
+pub mod gather;
+pub mod weigh;
