@@ -13,6 +13,7 @@ use numbering::Key;
 use numbering::Lookup;
 use numbering::SocWrLayout;
 use numbering::inner;
+use numbering::layout::check_layout;
 use refusals::Checked;
 use refusals::is_refused;
 use refusals::number_of;
@@ -94,11 +95,12 @@ fn no_sizes(c: Checked) -> Sizes
 pub extern "C" fn socwr_layout_new(n: u64, m: u64, k: u64, s: u64, records: &[u8]) -> Sizes
     ensures { λ r. ⌜ SizesAnswer (checkOf n m k s (now (records .entry))) (layoutOf (networkOf n m k s (now (records .entry)))) r ⌝ }
 {
-    let check = records::check_records(n as usize, m as usize, k as usize, s as usize, records);
+    let checked = check_layout(n as usize, m as usize, k as usize, s as usize, records, 0);
+    let check = checked.check;
     if is_refused(check) {
         return no_sizes(check);
     }
-    sizes_of(inner::layout(n as usize, m as usize, k as usize, s as usize, records))
+    sizes_of(checked.layout)
 }
 
 fn lookup_number(l: Lookup) -> u64

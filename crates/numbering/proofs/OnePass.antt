@@ -7,16 +7,22 @@ use native.Mathlib.Omega.{arith}
 use Rattle.refusals.specs.declared.Checked.the-variants.{Accepted}
 use Rattle.records.specs.Check.{checkOf}
 use Rattle.records.specs.Network.{networkOf}
+use Rattle.records.proofs.Laws.{accepted}
+use Rattle.numbering.specs.Laid.{Laid}
 use Rattle.numbering.specs.Layout.{layoutOf}
 use Rattle.numbering.specs.Lookups.{LaidOut}
 use Rattle.numbering.specs.Tally.{tallyOf}
 use Rattle.numbering.specs.declared.CheckedLayout.{CheckedLayout}
 use Rattle.numbering.specs.declared.Tally.the-variants.{Limited}
+use Rattle.numbering.proofs.Laid.{laid}
 use Rattle.numbering.proofs.Layouts.{limited-before}
 
 module _ {n m k s : ℕ} {b : List ℕ} {e : ℕ} {r : CheckedLayout} (p : LaidOut n m k s b e r) (h : checkOf n m k s b ≡ Accepted) where
   pub pass-layout : r .layout ≡ layoutOf (networkOf n m k s b)
   pass-layout = rw h at (p .layout)
+
+  pub pass-laid : Laid (r .layout) b
+  pass-laid = laid n m k s b (accepted n m k s b h) pass-layout
 
   pub pass-before : e < m → r .before ≡ tallyOf Limited b n e
   pass-before l =

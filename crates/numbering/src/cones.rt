@@ -1,6 +1,7 @@
 // The lengths of the cones, in Clarabel's order of rows.
 use crate::SocWrLayout;
 use crate::inner;
+use crate::layout::check_layout;
 use refusals::Written;
 use refusals::is_refused;
 use refusals::room_for;
@@ -79,9 +80,10 @@ pub fn cones(n: usize, m: usize, k: usize, s: usize, bytes: &[u8], out: &mut [u3
     ensures { λ r. ⌜ r ≡ writtenIf (conesCheck (checkOf n m k s (now (bytes .entry))) (layoutOf (networkOf n m k s (now (bytes .entry)))) (now (out .entry))) (coneCount (layoutOf (networkOf n m k s (now (bytes .entry))))) ⌝ }
     ensures { λ r. ⌜ now (out .exit) ≡ leftIn (conesCheck (checkOf n m k s (now (bytes .entry))) (layoutOf (networkOf n m k s (now (bytes .entry)))) (now (out .entry))) (coneLengths (networkOf n m k s (now (bytes .entry)))) (now (out .entry)) ⌝ }
 {
-    let check = records::check_records(n, m, k, s, bytes);
+    let checked = check_layout(n, m, k, s, bytes, 0);
+    let check = checked.check;
     if is_refused(check) {
         return written_if(check, 0);
     }
-    cones_in(inner::layout(n, m, k, s, bytes), out)
+    cones_in(checked.layout, out)
 }

@@ -64,11 +64,13 @@ impl SocWrLayout {
     pub fn new(n: usize, m: usize, k: usize, s: usize, bytes: &[u8]) -> LayoutAnswer
         ensures { λ r. ⌜ r ≡ newLayout n m k s (now (bytes .entry)) ⌝ }
     {
-        let check = records::check_records(n, m, k, s, bytes);
+        let checked = check_layout(n, m, k, s, bytes, 0);
+        let check = checked.check;
         if is_refused(check) {
             return no_layout(check);
         }
-        LayoutAnswer::Layout(inner::layout(n, m, k, s, bytes))
+        let layout = checked.layout;
+        LayoutAnswer::Layout(layout)
     }
 
     // 1: the first of n, m, k, S, T, cost columns that is too large.

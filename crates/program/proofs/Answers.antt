@@ -17,13 +17,11 @@ use Rattle.refusals.specs.declared.Checked.the-variants.{Accepted, Refused}
 use Rattle.refusals.specs.declared.Written.{Written}
 use Rattle.refusals.specs.declared.Written.the-variants as Written
 use Rattle.records.specs.Check.{checkOf}
-use Rattle.records.proofs.Laws.{accepted}
 use Rattle.refusals.proofs.Laws.{orElse-refused, accepted-first, left-written, left-alone, left-refused, count-written, count-refused, count-any, held, failed}
 use Rattle.records.specs.Network.{networkOf}
 use Rattle.records.specs.AcNetwork.{AcNetwork}
 use Rattle.numbering.specs.Lookups.{LaidOut}
-use Rattle.numbering.specs.Laid.{netOf, Laid}
-use Rattle.numbering.proofs.Laid.{laid}
+use Rattle.numbering.specs.Laid.{netOf}
 use Rattle.numbering.proofs.OnePass.{pass-layout}
 use Rattle.numbering.specs.declared.SocWrLayout.{SocWrLayout}
 use Rattle.numbering.specs.declared.CheckedLayout.{CheckedLayout}
@@ -109,9 +107,6 @@ module _ {check : Checked} {cs : List (List Cell)} {ss₀ rs₀ : List ℕ} {vs�
 -- ---- of accepted records what their layout gives
 
 module _ {n m k s : ℕ} {b : List ℕ} {e : ℕ} {c : CheckedLayout} (p : LaidOut n m k s b e c) (h : checkOf n m k s b ≡ Accepted) where
-  pub pass-laid : Laid (c .layout) b
-  pass-laid = laid n m k s b (accepted n m k s b h) (pass-layout p h)
-
   same-network : netOf (c .layout) b ≡ networkOf n m k s b
   same-network = ap (λ (l : SocWrLayout). netOf l b) (pass-layout p h)
 

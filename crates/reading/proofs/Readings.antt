@@ -37,9 +37,6 @@ module _ (n m k s : ℕ) (b : List ℕ) where
   G = networkOf n m k s b
 
   -- a check r that did not refuse
-  pub went : {r : Checked} → r ≡ checkOf n m k s b → isRefused r ≡ false → Network.Accepted n m k s b
-  went {r} e h = accepted n m k s b (sym e ∙ passed r h)
-
   pub part-went : (x : List Float) {r : Checked} → r ≡ partCheck n m k s b x → isRefused r ≡ false → Network.Accepted n m k s b × (length x ≡ nvar G)
   unfolding partCheck
   part-went x {r} e h =

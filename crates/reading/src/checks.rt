@@ -1,6 +1,5 @@
 // Whether a reading is refused.
-use numbering::inner::layout;
-use records::check_records;
+use numbering::layout::check_layout;
 use refusals::Checked;
 use refusals::is_refused;
 use solution::inner::solution_cause;
@@ -20,22 +19,22 @@ pub fn reading_check(
 ) -> Checked
     ensures { λ r. ⌜ r ≡ readingCheck n m k s (now (bytes .entry)) (now (x .entry)) (now (z .entry)) ⌝ }
 {
-    let records = check_records(n, m, k, s, bytes);
-    if is_refused(records) {
-        return records;
+    let checked = check_layout(n, m, k, s, bytes, 0);
+    let check = checked.check;
+    if is_refused(check) {
+        return check;
     }
-    let l = layout(n, m, k, s, bytes);
-    solution_cause(l, bytes, x.len(), z.len())
+    solution_cause(checked.layout, bytes, x.len(), z.len())
 }
 
 // The same without z: what refuses a part of x.
 pub fn part_check(n: usize, m: usize, k: usize, s: usize, bytes: &[u8], x: &[f64]) -> Checked
     ensures { λ r. ⌜ r ≡ partCheck n m k s (now (bytes .entry)) (now (x .entry)) ⌝ }
 {
-    let records = check_records(n, m, k, s, bytes);
-    if is_refused(records) {
-        return records;
+    let checked = check_layout(n, m, k, s, bytes, 0);
+    let check = checked.check;
+    if is_refused(check) {
+        return check;
     }
-    let l = layout(n, m, k, s, bytes);
-    x_cause(l, bytes, x.len())
+    x_cause(checked.layout, bytes, x.len())
 }

@@ -1,7 +1,6 @@
 // The prices of a solution.
 use crate::inner::fill;
-use numbering::inner::layout;
-use records::check_records;
+use numbering::layout::check_layout;
 use refusals::Checked;
 use refusals::Written;
 use refusals::is_refused;
@@ -27,13 +26,16 @@ fn prices_check(
 ) -> Checked
     ensures { λ r. ⌜ r ≡ pricesCheck n m k s (now (bytes .entry)) (now (z .entry)) room ⌝ }
 {
-    let records = check_records(n, m, k, s, bytes);
-    if is_refused(records) {
-        return records;
+    let checked = check_layout(n, m, k, s, bytes, 0);
+    let check = checked.check;
+    if is_refused(check) {
+        return check;
     }
     let need = n + n;
-    let l = layout(n, m, k, s, bytes);
-    or_else(z_cause(l, bytes, z.len()), room_for(need, room))
+    or_else(
+        z_cause(checked.layout, bytes, z.len()),
+        room_for(need, room),
+    )
 }
 
 // The active prices to the first n places, the reactive prices to the next n.

@@ -6,9 +6,7 @@ use Rattle.refusals.specs.declared.Checked.{Checked}
 use Rattle.refusals.specs.declared.Checked.the-variants.{Accepted}
 use Rattle.refusals.proofs.Laws.{accepted-by, refused-by}
 use Rattle.records.specs.Check.{checkOf}
-use Rattle.records.proofs.Laws.{accepted}
-use Rattle.numbering.proofs.OnePass.{pass-layout, pass-before}
-use Rattle.numbering.proofs.Laid.{laid}
+use Rattle.numbering.proofs.OnePass.{pass-layout, pass-laid, pass-before}
 use Rattle.solution.proofs.Entry.{answer-first, left-first, then-second}
 use Rattle.columns.proofs.parameter_jacobian.Statement.{statement}
 use Rattle.columns.proofs.parameter_jacobian.Tie as tie
@@ -23,7 +21,7 @@ column-of-requires : tie.Need-column-of-requires
 column-of-requires c κs =
     let p = c .before .before .before .before .check-layout .ensures in
     let h = accepted-by (p .check) (c .before .before .before .is-refused .ensures) (c .before .before .if1 .left) in
-    (laid _ _ _ _ _ (accepted _ _ _ _ _ h) (pass-layout p h), rw (pass-layout p h) (pass-before p h))
+    (pass-laid p h, rw (pass-layout p h) (pass-before p h))
 
 returns-2 : tie.Need-returns-2
 returns-2 c =

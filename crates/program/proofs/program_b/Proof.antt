@@ -3,7 +3,8 @@ use borrow.Author.Needs.{needs}
 use mathlib.Core.Path.{sym, _∙_}
 use Rattle.refusals.proofs.Laws.{accepted-by}
 use Rattle.matrix.specs.Lists.{rightSide}
-use Rattle.program.proofs.Answers.{floats-refused, pass-laid, pass-floats}
+use Rattle.numbering.proofs.OnePass.{pass-laid}
+use Rattle.program.proofs.Answers.{floats-refused, pass-floats}
 use Rattle.program.proofs.program_b.Statement.{statement}
 use Rattle.program.proofs.program_b.Tie as tie
 
