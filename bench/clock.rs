@@ -36,10 +36,10 @@ pub fn one<T>(mut call: impl FnMut() -> T) -> f64 {
 }
 
 /// Nanoseconds of two calls that take turns, so that each finds the caches as the other left them.
-fn two<T, U>(mut first: impl FnMut() -> T, mut second: impl FnMut() -> U) -> (f64, f64) {
+fn two<T, U>(rounds: usize, mut first: impl FnMut() -> T, mut second: impl FnMut() -> U) -> (f64, f64) {
     let (a, b) = (calls(&mut first), calls(&mut second));
     let mut times = (Vec::new(), Vec::new());
-    for _ in 0..ROUNDS {
+    for _ in 0..rounds {
         times.0.push(nanoseconds(a, &mut first) as f64 / a as f64);
         times.1.push(nanoseconds(b, &mut second) as f64 / b as f64);
     }
@@ -61,12 +61,12 @@ pub fn head(title: &str) {
 
 /// A line: what was timed, ours, the Rust's, and ours divided by the Rust's.
 pub fn line<T, U>(what: &str, ours: impl FnMut() -> T, rust: impl FnMut() -> U) {
-    let (a, b) = two(ours, rust);
+    let (a, b) = two(ROUNDS, ours, rust);
     println!("  {what:<46}{:>12}{:>12}{:>8.2}", shown(a), shown(b), a / b);
 }
 
 /// How much longer a call takes at 4,096 buses than at 1,024, the two taking turns.
 pub fn growth<T, U>(what: &str, small: impl FnMut() -> T, large: impl FnMut() -> U) {
-    let (a, b) = two(small, large);
+    let (a, b) = two(4 * ROUNDS, small, large);
     println!("  {what}: {} at 1,024 buses, {} at 4,096, {:.2} times as long", shown(a), shown(b), b / a);
 }
