@@ -1,3 +1,4 @@
 pub mod Larger
 pub mod Fits
 pub mod Regular
+pub mod ByColumns

@@ -22,6 +22,10 @@ subtractEntry dim columns x e r = turns (subtractAt dim x e) columns r
 unfoldable pub subtractEntries : ℕ → ℕ → List Float → List Entry → List Float → List Float
 subtractEntries dim columns x es r = through (subtractEntry dim columns x) es r
 
+-- the same by columns, as the code has it: what the entries subtract from column c
+unfoldable pub subtractColumn : ℕ → List Float → List Entry → ℕ → List Float → List Float
+subtractColumn dim x es c r = through (λ e. subtractAt dim x e c) es r
+
 -- eps on the diagonal
 unfoldable pub diagonal : ℕ → Float → List Entry
 diagonal dim eps = listed dim (λ d. entry d d eps)

@@ -17,7 +17,7 @@ ghost use Rattle.lists.specs.Entries.{entry};
 ghost use Rattle.refusals.specs.Refusals.{writtenIf, leftIn};
 ghost use Rattle.sparse.specs.Sparse.{entries};
 ghost use Rattle.sparse.specs.Checks.{bounded as boundedOf, entriesFit};
-ghost use Rattle.residual.specs.Residual.{subtractEntry, subtractEntries, diagonal, residual as residualOf};
+ghost use Rattle.residual.specs.Residual.{subtractEntry, subtractColumn, subtractEntries, diagonal, residual as residualOf};
 ghost use Rattle.residual.specs.Checks.{residualFits, residualCheck};
 
 // One entry's part in each column.
@@ -42,6 +42,29 @@ fn subtract_entry(
     }
 }
 
+// Every entry's part in column c.
+fn subtract_column(
+    out: &mut [f64],
+    dim: usize,
+    columns: usize,
+    c: usize,
+    rows: &[u32],
+    cols: &[u32],
+    values: &[f64],
+    answer: &[f64],
+)
+    requires { ⌜ (entriesFit dim (now rows) (now cols) (now values) ≡ true) × (dim ≤ 294912) × (c < columns) × (columns ≤ 65536) × (length (now out) ≡ dim * columns) × (length (now answer) ≡ dim * columns) ⌝ }
+    ensures { λ _. ⌜ now (out .exit) ≡ subtractColumn dim (now (answer .entry)) (entries (now (rows .entry)) (now (cols .entry)) (now (values .entry))) c (now (out .entry)) ⌝ }
+{
+    let base = c * dim;
+    for j in 0..rows.len() {
+        let at = base + wide(rows[j]);
+        let from = base + wide(cols[j]);
+        out[at] = out[at] - values[j] * answer[from];
+    }
+}
+
+// Column by column: each element has its entries in their order, as by entries, and far fewer lines are touched at a time.
 fn subtract_entries(
     out: &mut [f64],
     dim: usize,
@@ -51,13 +74,11 @@ fn subtract_entries(
     values: &[f64],
     answer: &[f64],
 )
-    requires { ⌜ (entriesFit dim (now rows) (now cols) (now values) ≡ true) × (dim ≤ 294912) × (length (now out) ≡ dim * columns) × (length (now answer) ≡ dim * columns) ⌝ }
+    requires { ⌜ (entriesFit dim (now rows) (now cols) (now values) ≡ true) × (dim ≤ 294912) × (columns ≤ 65536) × (length (now out) ≡ dim * columns) × (length (now answer) ≡ dim * columns) ⌝ }
     ensures { λ _. ⌜ now (out .exit) ≡ subtractEntries dim columns (now (answer .entry)) (entries (now (rows .entry)) (now (cols .entry)) (now (values .entry))) (now (out .entry)) ⌝ }
 {
-    for j in 0..rows.len() {
-        let row = wide(rows[j]);
-        let col = wide(cols[j]);
-        subtract_entry(out, dim, columns, row, col, values[j], answer);
+    for c in 0..columns {
+        subtract_column(out, dim, columns, c, rows, cols, values, answer);
     }
 }
 

@@ -20,7 +20,7 @@ copy-f64-requires c κs = let f = resided _ _ _ _ _ _ _ (c .before .before .befo
 
 -- src/residuals.rt:79:5
 subtract-entries-requires : tie.Need-subtract-entries-requires
-subtract-entries-requires c κs = let f = resided _ _ _ _ _ _ _ (c .before .before .before .before .before .before .before .before .before .before .before .pre .0) in (f .fit, f .bounds .small, omega arith, f .answer-size)
+subtract-entries-requires c κs = let f = resided _ _ _ _ _ _ _ (c .before .before .before .before .before .before .before .before .before .before .before .pre .0) in (f .fit, f .bounds .small, f .bounds .few, omega arith, f .answer-size)
 
 -- src/residuals.rt:81:9
 subtract-diagonal-requires : tie.Need-subtract-diagonal-requires
