@@ -12,6 +12,7 @@ use Rattle.lists.specs.Steps.{turns, through}
 use Rattle.lists.specs.Entries.{Entry, entry}
 use Rattle.sparse.specs.Sparse.{entries}
 use Rattle.sparse.proofs.Fits.{Entered}
+use Rattle.sparse.proofs.Places.{inside}
 use Rattle.residual.specs.Residual.{subtractAt, subtractEntry, subtractColumn, subtractEntries}
 
 -- each row is below dim
@@ -31,6 +32,11 @@ inside-listed (suc n) f h = inside-append (inside-listed n f (λ j l. h j (omega
 -- a place in a column before
 before : (c d dim a b : ℕ) → d < c → a < dim → b < dim → d * dim + b < c * dim + a
 before c d dim a b h k l = omega (arith, mul-le-mul-right dim h, suc-mul d dim)
+
+-- both places of an entry in column c lie inside
+pub spots : {dim : ℕ} {rows cols : List ℕ} {values : List Float} → Entered dim rows cols values → (c columns j : ℕ) → c < columns → j < length rows
+    → (c * dim + getD rows j 0 < dim * columns) × (c * dim + getD cols j 0 < dim * columns)
+spots {dim} f c columns j h k = (inside c columns _ dim h (f .rows-below j k), inside c columns _ dim h (f .cols-below j k))
 
 module _ (dim : ℕ) (x : List Float) where
   abbrev at : Entry → ℕ → List Float → List Float

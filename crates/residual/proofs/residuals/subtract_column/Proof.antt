@@ -1,5 +1,5 @@
 -- `residual::residuals::subtract_column` meets its contract. Assumes nothing.
-use Prim.Native.Nat.{ℕ, _*_, _<_, _≤_, _-_}
+use Prim.Native.Nat.{ℕ, _*_, _≤_, _-_}
 use mathlib.Core.Path.{_≡_, refl}
 use mathlib.Core.List.{[], _∷_}
 use native.Mathlib.Omega.{arith}
@@ -13,8 +13,9 @@ use Rattle.lists.specs.Steps.{through}
 use Rattle.lists.proofs.Steps.{over-none, over-next}
 use Rattle.sparse.specs.Sparse.{entries}
 use Rattle.sparse.proofs.Fits.{entered, size}
-use Rattle.sparse.proofs.Places.{inside, column-inside}
+use Rattle.sparse.proofs.Places.{column-inside}
 use Rattle.residual.specs.Residual.{subtractAt, subtractColumn}
+use Rattle.residual.proofs.ByColumns.{spots}
 use Rattle.residual.proofs.residuals.subtract_column.Statement.{statement}
 use Rattle.residual.proofs.residuals.subtract_column.Tie as tie
 
@@ -37,111 +38,71 @@ loop-holds c = (omega arith, refl, refl, refl, over-none _ _ _)
 
 add-at : tie.Need-add-at Inv-loop μ-loop
 add-at c =
-    let a = c .before .before .before .before .before .before .before .before .before .args in
     let p = c .before .before .before .before .before .before .before .before .before .pre in
-    let f = entered _ _ _ _ (p .0) in
-    let z = size (record { few = p .3; small = p .1 }) in
-    let j : c .before .before .before .loop .j < length (now (a .rows)) = omega arith in
-    omega (arith, z, inside (a .c) (a .columns) _ (a .dim) (p .2) (f .rows-below _ j), c .wide .ensures .0, c .before .before .before .loop .inv .2)
+    let o = c .before .before .before .loop in
+    let q = spots (entered _ _ _ _ (p .0)) _ _ (o .j) (p .2) (omega arith) in
+    omega (arith, q .0, q .1, c .wide .ensures .0, o .inv .2, size (record { few = p .3; small = p .1 }))
 
 mul-wide-2 : tie.Need-mul-wide-2 Inv-loop μ-loop
-mul-wide-2 c =
-    let a = c .before .before .before .before .before .before .before .before .before .args in
-    let p = c .before .before .before .before .before .before .before .before .before .pre in
-    let f = entered _ _ _ _ (p .0) in
-    let z = size (record { few = p .3; small = p .1 }) in
-    let j : c .before .before .before .loop .j < length (now (a .rows)) = omega arith in
-    omega (arith, f .same-cols)
+mul-wide-2 c = let f = entered _ _ _ _ (c .before .before .before .before .before .before .before .before .before .pre .0) in omega (arith, f .same-cols, f .same-values)
 
 shared-slice-read-wide-2 : tie.Need-shared-slice-read-wide-2 Inv-loop μ-loop
-shared-slice-read-wide-2 c =
-    let a = c .before .before .before .before .before .before .before .before .before .before .args in
-    let p = c .before .before .before .before .before .before .before .before .before .before .pre in
-    let f = entered _ _ _ _ (p .0) in
-    let z = size (record { few = p .3; small = p .1 }) in
-    let j : c .before .before .before .before .loop .j < length (now (a .rows)) = omega arith in
-    omega (arith, f .same-cols)
+shared-slice-read-wide-2 c = let f = entered _ _ _ _ (c .before .before .before .before .before .before .before .before .before .before .pre .0) in omega (arith, f .same-cols, f .same-values)
 
 add-from : tie.Need-add-from Inv-loop μ-loop
 add-from c =
-    let a = c .before .before .before .before .before .before .before .before .before .before .before .args in
     let p = c .before .before .before .before .before .before .before .before .before .before .before .pre in
-    let f = entered _ _ _ _ (p .0) in
-    let z = size (record { few = p .3; small = p .1 }) in
-    let j : c .before .before .before .before .before .loop .j < length (now (a .rows)) = omega arith in
-    omega (arith, z, inside (a .c) (a .columns) _ (a .dim) (p .2) (f .cols-below _ j), c .wide2 .ensures .0, c .before .before .before .before .before .loop .inv .2)
+    let o = c .before .before .before .before .before .loop in
+    let q = spots (entered _ _ _ _ (p .0)) _ _ (o .j) (p .2) (omega arith) in
+    omega (arith, q .0, q .1, c .before .before .wide .ensures .0, c .wide2 .ensures .0, o .inv .2, size (record { few = p .3; small = p .1 }))
 
 mul-out : tie.Need-mul-out Inv-loop μ-loop
 mul-out c =
-    let a = c .before .before .before .before .before .before .before .before .before .before .before .args in
     let p = c .before .before .before .before .before .before .before .before .before .before .before .pre in
-    let f = entered _ _ _ _ (p .0) in
-    let z = size (record { few = p .3; small = p .1 }) in
-    let j : c .before .before .before .before .before .loop .j < length (now (a .rows)) = omega arith in
-    omega (arith, z, inside (a .c) (a .columns) _ (a .dim) (p .2) (f .rows-below _ j), c .before .before .wide .ensures .0, c .before .before .before .before .before .loop .inv .2, c .before .before .before .before .before .loop .inv .3)
+    let o = c .before .before .before .before .before .loop in
+    let q = spots (entered _ _ _ _ (p .0)) _ _ (o .j) (p .2) (omega arith) in
+    omega (arith, q .0, q .1, c .before .before .wide .ensures .0, c .wide2 .ensures .0, o .inv .2, size (record { few = p .3; small = p .1 }))
 
 slice-read-out : tie.Need-slice-read-out Inv-loop μ-loop
 slice-read-out c =
-    let a = c .before .before .before .before .before .before .before .before .before .before .before .before .args in
     let p = c .before .before .before .before .before .before .before .before .before .before .before .before .pre in
-    let f = entered _ _ _ _ (p .0) in
-    let z = size (record { few = p .3; small = p .1 }) in
-    let j : c .before .before .before .before .before .before .loop .j < length (now (a .rows)) = omega arith in
-    omega (arith, inside (a .c) (a .columns) _ (a .dim) (p .2) (f .rows-below _ j), c .before .before .before .wide .ensures .0, c .before .before .before .before .before .before .loop .inv .2, c .before .before .before .before .before .before .loop .inv .3, p .4)
+    let o = c .before .before .before .before .before .before .loop in
+    let q = spots (entered _ _ _ _ (p .0)) _ _ (o .j) (p .2) (omega arith) in
+    omega (arith, q .0, q .1, c .before .before .before .wide .ensures .0, c .before .wide2 .ensures .0, o .inv .2, o .inv .3, p .4)
 
 mul-out-2 : tie.Need-mul-out-2 Inv-loop μ-loop
-mul-out-2 c =
-    let a = c .before .before .before .before .before .before .before .before .before .before .before .before .args in
-    let p = c .before .before .before .before .before .before .before .before .before .before .before .before .pre in
-    let f = entered _ _ _ _ (p .0) in
-    let z = size (record { few = p .3; small = p .1 }) in
-    let j : c .before .before .before .before .before .before .loop .j < length (now (a .rows)) = omega arith in
-    omega (arith, f .same-values)
+mul-out-2 c = let f = entered _ _ _ _ (c .before .before .before .before .before .before .before .before .before .before .before .before .pre .0) in omega (arith, f .same-cols, f .same-values)
 
 shared-slice-read-out : tie.Need-shared-slice-read-out Inv-loop μ-loop
-shared-slice-read-out c =
-    let a = c .before .before .before .before .before .before .before .before .before .before .before .before .before .args in
-    let p = c .before .before .before .before .before .before .before .before .before .before .before .before .before .pre in
-    let f = entered _ _ _ _ (p .0) in
-    let z = size (record { few = p .3; small = p .1 }) in
-    let j : c .before .before .before .before .before .before .before .loop .j < length (now (a .rows)) = omega arith in
-    omega (arith, f .same-values)
+shared-slice-read-out c = let f = entered _ _ _ _ (c .before .before .before .before .before .before .before .before .before .before .before .before .before .pre .0) in omega (arith, f .same-cols, f .same-values)
 
 mul-out-3 : tie.Need-mul-out-3 Inv-loop μ-loop
 mul-out-3 c =
-    let a = c .before .before .before .before .before .before .before .before .before .before .before .before .before .args in
     let p = c .before .before .before .before .before .before .before .before .before .before .before .before .before .pre in
-    let f = entered _ _ _ _ (p .0) in
-    let z = size (record { few = p .3; small = p .1 }) in
-    let j : c .before .before .before .before .before .before .before .loop .j < length (now (a .rows)) = omega arith in
-    omega (arith, z, inside (a .c) (a .columns) _ (a .dim) (p .2) (f .cols-below _ j), c .before .before .wide2 .ensures .0, c .before .before .before .before .before .before .before .loop .inv .2, c .before .before .before .before .before .before .before .loop .inv .3)
+    let o = c .before .before .before .before .before .before .before .loop in
+    let q = spots (entered _ _ _ _ (p .0)) _ _ (o .j) (p .2) (omega arith) in
+    omega (arith, q .0, q .1, c .before .before .before .before .wide .ensures .0, c .before .before .wide2 .ensures .0, o .inv .2, size (record { few = p .3; small = p .1 }))
 
 shared-slice-read-out-2 : tie.Need-shared-slice-read-out-2 Inv-loop μ-loop
 shared-slice-read-out-2 c =
-    let a = c .before .before .before .before .before .before .before .before .before .before .before .before .before .before .args in
     let p = c .before .before .before .before .before .before .before .before .before .before .before .before .before .before .pre in
-    let f = entered _ _ _ _ (p .0) in
-    let z = size (record { few = p .3; small = p .1 }) in
-    let j : c .before .before .before .before .before .before .before .before .loop .j < length (now (a .rows)) = omega arith in
-    omega (arith, inside (a .c) (a .columns) _ (a .dim) (p .2) (f .cols-below _ j), c .before .before .before .wide2 .ensures .0, c .before .before .before .before .before .before .before .before .loop .inv .2, c .before .before .before .before .before .before .before .before .loop .inv .3, p .5)
+    let o = c .before .before .before .before .before .before .before .before .loop in
+    let q = spots (entered _ _ _ _ (p .0)) _ _ (o .j) (p .2) (omega arith) in
+    omega (arith, q .0, q .1, c .before .before .before .before .before .wide .ensures .0, c .before .before .before .wide2 .ensures .0, o .inv .2, p .5)
 
 mul-out-4 : tie.Need-mul-out-4 Inv-loop μ-loop
 mul-out-4 c =
-    let a = c .before .before .before .before .before .before .before .before .before .before .before .before .before .before .args in
     let p = c .before .before .before .before .before .before .before .before .before .before .before .before .before .before .pre in
-    let f = entered _ _ _ _ (p .0) in
-    let z = size (record { few = p .3; small = p .1 }) in
-    let j : c .before .before .before .before .before .before .before .before .loop .j < length (now (a .rows)) = omega arith in
-    omega (arith, z, inside (a .c) (a .columns) _ (a .dim) (p .2) (f .rows-below _ j), c .before .before .before .before .before .wide .ensures .0, c .before .before .before .before .before .before .before .before .loop .inv .2, c .before .before .before .before .before .before .before .before .loop .inv .3)
+    let o = c .before .before .before .before .before .before .before .before .loop in
+    let q = spots (entered _ _ _ _ (p .0)) _ _ (o .j) (p .2) (omega arith) in
+    omega (arith, q .0, q .1, c .before .before .before .before .before .wide .ensures .0, c .before .before .before .wide2 .ensures .0, o .inv .2, size (record { few = p .3; small = p .1 }))
 
 slice-write-out : tie.Need-slice-write-out Inv-loop μ-loop
 slice-write-out c =
-    let a = c .before .before .before .before .before .before .before .before .before .before .before .before .before .before .args in
     let p = c .before .before .before .before .before .before .before .before .before .before .before .before .before .before .pre in
-    let f = entered _ _ _ _ (p .0) in
-    let z = size (record { few = p .3; small = p .1 }) in
-    let j : c .before .before .before .before .before .before .before .before .loop .j < length (now (a .rows)) = omega arith in
-    omega (arith, inside (a .c) (a .columns) _ (a .dim) (p .2) (f .rows-below _ j), c .before .before .before .before .before .wide .ensures .0, c .before .before .before .before .before .before .before .before .loop .inv .2, c .before .before .before .before .before .before .before .before .loop .inv .3, p .4)
+    let o = c .before .before .before .before .before .before .before .before .loop in
+    let q = spots (entered _ _ _ _ (p .0)) _ _ (o .j) (p .2) (omega arith) in
+    omega (arith, q .0, q .1, c .before .before .before .before .before .wide .ensures .0, c .before .before .before .wide2 .ensures .0, o .inv .2, o .inv .3, p .4)
 
 loop-again : tie.Need-loop-again Inv-loop μ-loop
 unfolding subtractAt
