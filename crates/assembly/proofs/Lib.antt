@@ -1,1 +1,2 @@
 pub mod PartsOfA
+pub mod Ahead

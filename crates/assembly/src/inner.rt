@@ -20,7 +20,8 @@ ghost use Rattle.lists.specs.Compressed.{cellOut, joined};
 ghost use Rattle.rows.specs.Program.{matrix};
 ghost use Rattle.matrix.specs.Columns.{wCells};
 ghost use Rattle.cells.specs.Columns.{Columns, Whole};
-ghost use Rattle.bus_columns.specs.Buses.{ownItems, endItems};
+ghost use Rattle.bus_columns.specs.Counts.{ownCells, fromCells, toCells};
+ghost use Rattle.assembly.specs.Ahead.{Ahead};
 ghost use Rattle.assembly.specs.Parts.{generatorColumns, productColumns, flowColumns, branchColumns, mostA};
 ghost use Rattle.numbering.specs.Laid.{netOf, Laid};
 
@@ -42,7 +43,7 @@ fn fill_generators(
     put_qgs(starts, rows, vals, next, l, bytes)
 }
 
-// The w columns.
+// The w columns. The starts of the wr and wi columns, which are written next, serve meanwhile for the ends of the branches by bus.
 fn fill_buses(
     starts: &mut [u32],
     rows: &mut [u32],
@@ -52,12 +53,12 @@ fn fill_buses(
     bytes: &[u8],
 ) -> usize
     requires { ⌜ Laid l (now bytes) ⌝ }
-    requires { ⌜ (at < 900000) × (2 * l .k + l .n + 1 ≤ length (now starts)) ⌝ }
-    ensures { λ x. ⌜ Columns (listed (l .n) (wCells (netOf l (now (bytes .entry))))) (2 * l .k) (now (starts .entry)) (cellOut (now (rows .entry)) (now (vals .entry)) at) (now (starts .exit)) (cellOut (now (rows .exit)) (now (vals .exit)) x) ⌝ }
+    requires { ⌜ (at < 900000) × (2 * l .k + l .n + 2 * l .m + 1 ≤ length (now starts)) ⌝ }
+    ensures { λ x. ⌜ Ahead (listed (l .n) (wCells (netOf l (now (bytes .entry))))) (2 * l .k) (2 * l .m) (now (starts .entry)) (cellOut (now (rows .entry)) (now (vals .entry)) at) (now (starts .exit)) (cellOut (now (rows .exit)) (now (vals .exit)) x) ⌝ }
     ensures { λ x. ⌜ x ≤ at + 4 * l .n + 8 * l .m ⌝ }
 {
     let first = 2 * l.k + 1;
-    let end = first + l.n;
+    let end = first + l.n + 2 * l.m;
     put_buses(&mut starts[first..end], rows, vals, at, l, bytes)
 }
 
@@ -125,7 +126,7 @@ fn fill_branches(
 // How many cells the buses have in their own rows, and the branches in the columns of their ends.
 fn count_buses(l: SocWrLayout, bytes: &[u8]) -> usize
     requires { ⌜ Laid l (now bytes) ⌝ }
-    ensures { λ x. ⌜ x ≡ sum (l .n) (λ i. length (ownItems l (now (bytes .entry)) i)) ⌝ }
+    ensures { λ x. ⌜ x ≡ sum (l .n) (λ i. length (ownCells (netOf l (now (bytes .entry))) i)) ⌝ }
     ensures { λ x. ⌜ x ≤ 4 * l .n ⌝ }
 {
     let n = l.n;
@@ -140,7 +141,7 @@ fn count_buses(l: SocWrLayout, bytes: &[u8]) -> usize
 
 fn count_ends(l: SocWrLayout, bytes: &[u8]) -> usize
     requires { ⌜ Laid l (now bytes) ⌝ }
-    ensures { λ x. ⌜ x ≡ sum (l .m) (λ e. length (endItems l (now (bytes .entry)) e)) ⌝ }
+    ensures { λ x. ⌜ x ≡ sum (l .m) (λ e. length (fromCells (netOf l (now (bytes .entry))) e) + length (toCells (netOf l (now (bytes .entry))) e)) ⌝ }
     ensures { λ x. ⌜ x ≤ 8 * l .m ⌝ }
 {
     let m = l.m;
@@ -175,7 +176,7 @@ pub fn fill_a(
     bytes: &[u8],
 ) -> usize
     requires { ⌜ Laid l (now bytes) ⌝ }
-    requires { ⌜ 2 * l .k + l .n + 1 ≤ length (now starts) ⌝ }
+    requires { ⌜ 2 * l .k + l .n + 2 * l .m + 1 ≤ length (now starts) ⌝ }
     ensures { λ x. ⌜ Whole (matrix (netOf l (now (bytes .entry)))) (now (starts .entry)) (now (rows .entry)) (now (vals .entry)) (now (starts .exit)) (now (rows .exit)) (now (vals .exit)) x ⌝ }
     ensures { λ x. ⌜ x ≤ mostA l ⌝ }
 {

@@ -1,3 +1,4 @@
-pub mod Keys
-pub mod BusColumns
+pub mod ColumnEnds
 pub mod Counts
+pub mod Ends
+pub mod Passed

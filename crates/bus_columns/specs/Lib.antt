@@ -1,2 +1,2 @@
-pub mod Cells
-pub mod Buses
+pub mod Counts
+pub mod Ends

@@ -3,7 +3,7 @@ use borrow.Author.Needs.{needs}
 use native.Mathlib.Omega.{arith}
 use denote.Ref.{now}
 use Rattle.cells.proofs.Ends.{columns-pos}
-use Rattle.bus_columns.proofs.Counts.{items-counted}
+use Rattle.bus_columns.proofs.Counts.{columns-counted}
 use Rattle.assembly.proofs.PartsOfA.{matrix-count}
 use Rattle.assembly.proofs.inner.count_a.Statement.{statement}
 use Rattle.assembly.proofs.inner.count_a.Tie as tie
@@ -21,7 +21,7 @@ returns : tie.Need-returns
 returns c =
     let a = c .before .before .before .before .before .before .before .before .before .before .before .before .before .before .before .before .before .args in
     let b = now (a .bytes) in
-    omega (arith, matrix-count (a .l) b (c .before .before .before .before .before .before .before .before .before .before .before .before .before .before .before .before .before .pre), items-counted (a .l) b, columns-pos (c .before .before .before .before .before .before .before .before .before .before .before .before .fill-generators .ensures .0), columns-pos (c .before .before .before .fill-branches .ensures .0), c .before .before .before .before .before .before .before .before .count-buses .ensures .0, c .before .before .before .before .before .before .before .count-ends .ensures .0)
+    omega (arith, matrix-count (a .l) b (c .before .before .before .before .before .before .before .before .before .before .before .before .before .before .before .before .before .pre), columns-counted (a .l) b (c .before .before .before .before .before .before .before .before .before .before .before .before .before .before .before .before .before .pre), columns-pos (c .before .before .before .before .before .before .before .before .before .before .before .before .fill-generators .ensures .0), columns-pos (c .before .before .before .fill-branches .ensures .0), c .before .before .before .before .before .before .before .before .count-buses .ensures .0, c .before .before .before .before .before .before .before .count-ends .ensures .0)
 
 pub count-a-spec : {M : Type 1} → statement M
 count-a-spec = tie.close (tie.spec (λ c. search needs) (λ c. search needs) (λ c. search needs) (λ c κs. search needs) (λ c κs. search needs) add-a2 (λ c κs. search needs) add-a2-2 (λ c. search needs) (λ c. search needs) (λ c. search needs) fill-branches-requires returns)

@@ -1,14 +1,13 @@
 -- `assembly::inner::fill_a` meets its contract. Assumes nothing.
 use borrow.Author.Needs.{needs}
 use native.Mathlib.Omega.{arith}
-use lib.ListN.{length-append}
+use mathlib.Core.List.{append-assoc}
 use denote.Ref.{now}
-use Rattle.lists.specs.UpTo.{listed}
 use Rattle.matrix.specs.Columns.{wCells}
-use Rattle.assembly.specs.Parts.{generatorColumns}
 use Rattle.cells.proofs.Fills.{listed-length}
 use Rattle.cells.proofs.Ends.{columns-then}
-use Rattle.assembly.proofs.PartsOfA.{generators-length, matrix-parts}
+use Rattle.assembly.proofs.PartsOfA.{generators-length, branches-many, matrix-parts}
+use Rattle.assembly.proofs.Ahead.{ahead-then}
 use Rattle.assembly.proofs.inner.fill_a.Statement.{statement}
 use Rattle.assembly.proofs.inner.fill_a.Tie as tie
 use Rattle.numbering.specs.Laid.{netOf}
@@ -25,13 +24,10 @@ returns c =
     let b = now (a .bytes) in
     let G = netOf (a .l) b in
     let lg = generators-length (a .l) b in
-    let lw = listed-length (wCells G) (a .l .n) in (
-      record {
-        columns =
-            rw (matrix-parts (a .l) b (c .before .before .before .before .before .before .before .before .before .before .before .before .before .before .before .before .before .before .before .before .before .before .before .before .before .before .before .before .before .before .before .before .before .before .before .before .before .before .pre .0))
-            (columns-then (columns-then (rw (c .before .before .before .before .before .before .before .before .before .before .before .before .before .before .before .before .before .before .before .before .before .before .before .before .before .before .before .before .before .before .before .before .store-u32 .ensures) at (c .before .before .before .before .before .before .before .before .before .before .before .before .before .before .before .before .before .before .before .before .before .before .before .before .before .before .fill-generators .ensures .0)) (omega (arith, lg)) (c .before .before .before .before .before .before .before .before .before .before .before .before .before .before .before .before .fill-buses .ensures .0))
-            (omega (arith, lg, lw, length-append (generatorColumns G) (listed (a .l .n) (wCells G)))) (c .before .before .before .before .before .before .fill-branches .ensures .0));
-      },
+    let lw = listed-length (wCells G) (a .l .n) in
+    let g = rw (c .before .before .before .before .before .before .before .before .before .before .before .before .before .before .before .before .before .before .before .before .before .before .before .before .before .before .before .before .before .before .before .before .store-u32 .ensures) at (c .before .before .before .before .before .before .before .before .before .before .before .before .before .before .before .before .before .before .before .before .before .before .before .before .before .before .fill-generators .ensures .0) in
+    let w = ahead-then (c .before .before .before .before .before .before .before .before .before .before .before .before .before .before .before .before .fill-buses .ensures .0) (omega (arith, lw)) (branches-many (a .l) b) (c .before .before .before .before .before .before .fill-branches .ensures .0) in (
+      record { columns = rw (matrix-parts (a .l) b (c .before .before .before .before .before .before .before .before .before .before .before .before .before .before .before .before .before .before .before .before .before .before .before .before .before .before .before .before .before .before .before .before .before .before .before .before .before .before .pre .0), append-assoc) (columns-then g (omega (arith, lg)) w) },
       omega (arith, c .before .before .before .before .before .before .before .before .before .before .before .before .before .before .before .before .before .before .before .before .before .before .before .before .before .before .fill-generators .ensures .1, c .before .before .before .before .before .before .before .before .before .before .before .before .before .before .before .before .fill-buses .ensures .1, c .before .before .before .before .before .before .fill-branches .ensures .1),
     )
 

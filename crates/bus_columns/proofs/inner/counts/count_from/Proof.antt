@@ -7,6 +7,7 @@ use lib.Ieee.{Float, ne}
 use denote.Ref.{now}
 use Rattle.lists.specs.UpTo.{bit}
 use Rattle.rows.specs.Rows.{zero64}
+use Rattle.numbering.specs.Laid.{netOf}
 use Rattle.bus_columns.proofs.Counts.{from-length}
 use Rattle.bus_columns.proofs.inner.counts.count_from.Statement.{statement}
 use Rattle.bus_columns.proofs.inner.counts.count_from.Tie as tie
@@ -17,7 +18,7 @@ returns c =
     let f : Float → ℕ = λ x. bit (ne x zero64) in
     let p = c .before .before .bit-nonzero .ensures in
     let q = c .bit-nonzero2 .ensures in
-    (omega (arith, from-length (a .l) (now (a .bytes)) (a .e), p .0 ∙ ap f (c .before .before .before .w-value .ensures), q .0 ∙ ap f (c .before .w-value2 .ensures)), omega (arith, p .1, q .1))
+    (omega (arith, from-length (netOf (a .l) (now (a .bytes))) (a .e), p .0 ∙ ap f (c .before .before .before .w-value .ensures), q .0 ∙ ap f (c .before .w-value2 .ensures)), omega (arith, p .1, q .1))
 
 pub count-from-spec : {M : Type 1} → statement M
 count-from-spec = tie.close (tie.spec (λ c. search needs) (λ c κs. search needs) (λ c κs. search needs) (λ c κs. search needs) (λ c κs. search needs) (λ c. search needs) (λ c. search needs) returns)

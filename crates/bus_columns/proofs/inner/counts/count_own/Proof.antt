@@ -6,6 +6,7 @@ use lib.Ieee.{Float, neg, ne}
 use denote.Ref.{now}
 use Rattle.lists.specs.UpTo.{bit}
 use Rattle.rows.specs.Rows.{zero64}
+use Rattle.numbering.specs.Laid.{netOf}
 use Rattle.bus_columns.proofs.Counts.{own-length}
 use Rattle.bus_columns.proofs.inner.counts.count_own.Statement.{statement}
 use Rattle.bus_columns.proofs.inner.counts.count_own.Tie as tie
@@ -14,7 +15,7 @@ returns : tie.Need-returns
 returns c =
     let a = c .before .before .before .before .before .before .before .args in
     let b = now (a .bytes) in
-    let q = own-length (a .l) b (a .i) in
+    let q = own-length (netOf (a .l) b) (a .i) in
     let t = ap bit (sym (c .before .voltage-bound-active .ensures) ∙ c .if1 .taken) in
     let e1 = ap (λ (x : Float). bit (ne (neg x) zero64)) (c .before .before .before .before .before .gs .ensures) in
     let e2 = ap (λ (x : Float). bit (ne x zero64)) (c .before .before .before .before .bs .ensures) in
@@ -24,7 +25,7 @@ returns-2 : tie.Need-returns-2
 returns-2 c =
     let a = c .before .before .before .before .before .before .before .args in
     let b = now (a .bytes) in
-    let q = own-length (a .l) b (a .i) in
+    let q = own-length (netOf (a .l) b) (a .i) in
     let t = ap bit (sym (c .before .voltage-bound-active .ensures) ∙ c .if1 .left) in
     let e1 = ap (λ (x : Float). bit (ne (neg x) zero64)) (c .before .before .before .before .before .gs .ensures) in
     let e2 = ap (λ (x : Float). bit (ne x zero64)) (c .before .before .before .before .bs .ensures) in

@@ -1,0 +1,40 @@
+-- `bus_columns::inner::column::put_ohm` meets its contract. Assumes nothing.
+use borrow.Author.Needs.{needs}
+use Prim.Native.Nat.{_/_, _%_}
+use mathlib.Core.Path.{_≡_, sym, _∙_}
+use mathlib.Core.Bool.{true, false}
+use native.Mathlib.Omega.{arith}
+use borrow.Author.Tests.{eq-eqb, ne-eqb, lt-ltb, le-ltb}
+use lib.Dec.{eqb, ltb}
+use Rattle.lists.proofs.Compressed.{wrote-none}
+use Rattle.coefficients.specs.Ohm.{rowKind}
+use Rattle.matrix.specs.Columns.{ohmCell}
+use Rattle.bus_columns.specs.Ends.{sideOf, ohmEnd}
+use Rattle.bus_columns.proofs.inner.column.put_ohm.Statement.{statement}
+use Rattle.bus_columns.proofs.inner.column.put_ohm.Tie as tie
+
+returns : tie.Need-returns
+unfolding ohmEnd ohmCell
+returns c =
+    let a = c .before .before .before .before .before .before .before .before .before .before .before .before .before .before .before .before .before .before .args in
+    let t : eqb (a .x % 2) (sideOf (rowKind (a .q))) ≡ true = eq-eqb _ _ (c .before .before .before .before .before .before .before .before .before .before .before .before .if1 .taken ∙ c .before .before .before .before .before .before .before .before .before .before .before .before .before .side .ensures) in
+    let e : ltb (a .x / 2) (a .l .m) ≡ true = lt-ltb (a .x / 2) (a .l .m) (omega (arith, c .before .before .before .before .before .before .before .before .before .before .before .before .before .before .wide .ensures, c .before .before .before .before .before .before .before .before .before .before .if2 .taken)) in
+    (rw (t, e) (rw (c .before .before .before .before .before .before .before .before .before .ohm-row .ensures, c .before .before .before .before .before .before .before .w-value .ensures, c .before .before .before .before .before .before .before .before .before .before .before .before .before .before .wide .ensures) at (c .before .before .before .before .put-nonzero .ensures .0)), omega arith)
+
+returns-2 : tie.Need-returns-2
+unfolding ohmEnd
+returns-2 c =
+    let a = c .before .before .before .before .before .before .before .before .args in
+    let t : eqb (a .x % 2) (sideOf (rowKind (a .q))) ≡ true = eq-eqb _ _ (c .before .before .if1 .taken ∙ c .before .before .before .side .ensures) in
+    let e : ltb (a .x / 2) (a .l .m) ≡ false = le-ltb (a .x / 2) (a .l .m) (omega (arith, c .before .before .before .before .wide .ensures, c .if2 .left)) in
+    (rw (t, e) wrote-none, omega arith)
+
+returns-3 : tie.Need-returns-3
+unfolding ohmEnd
+returns-3 c =
+    let a = c .before .before .before .before .before .before .args in
+    let t : eqb (a .x % 2) (sideOf (rowKind (a .q))) ≡ false = ne-eqb _ _ (λ q. c .if1 .left (q ∙ sym (c .before .side .ensures))) in
+    (rw t wrote-none, omega arith)
+
+pub put-ohm-spec : {M : Type 1} → statement M
+put-ohm-spec = tie.close (tie.spec (λ c κs. search needs) (λ c κs. search needs) (λ c κs. search needs) (λ c. search needs) (λ c κs. search needs) (λ c κs. search needs) (λ c. search needs) (λ c. search needs) returns returns-2 returns-3)

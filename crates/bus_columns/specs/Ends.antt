@@ -1,0 +1,42 @@
+-- What one end of a branch puts into its bus's column. End 2e is branch e's from end, end 2e + 1 its to end.
+use Prim.Native.Nat.{ℕ, _/_, _%_}
+use mathlib.Core.Bool.{Bool, true, false}
+use mathlib.Core.List.{List, _++_}
+use lib.Dec.{eqb, ltb}
+use lib.ListN.{length, getD}
+use lib.Ieee.{Float}
+use Rattle.lists.specs.UpTo.{each, when}
+use Rattle.lists.specs.Entries.{Cell}
+use Rattle.records.specs.AcNetwork.{AcNetwork}
+use Rattle.numbering.specs.declared.RowName.the-variants.{Jabr}
+use Rattle.rows.specs.Rows.{OhmRow, pf, qf, pt, qt, half, minusHalf, constant64}
+use Rattle.matrix.specs.Columns.{at, ohmCell}
+
+-- the side of an Ohm row: 0 at the from end, 1 at the to end
+abbrev pub sideOf : OhmRow → ℕ
+sideOf pf = 0
+sideOf qf = 0
+sideOf pt = 1
+sideOf qt = 1
+
+-- the value in the last row of a branch's cone, at its from end and at its to end
+abbrev pub lastValue : Bool → Float
+lastValue true = constant64 minusHalf
+lastValue false = constant64 half
+
+module _ (G : AcNetwork Float) where
+  unfoldable pub ohmEnd : OhmRow → ℕ → List Cell
+  ohmEnd r x = when (eqb (x % 2) (sideOf r)) (when (ltb (x / 2) (G .m)) (ohmCell G r (x / 2)))
+
+  unfoldable pub coneEnd : ℕ → List Cell
+  coneEnd x = when (ltb (x / 2) (G .m)) (at G (Jabr (x / 2) 0) (constant64 minusHalf) ++ at G (Jabr (x / 2) 3) (lastValue (eqb (x % 2) 0)))
+
+  -- the same of the ends in a list
+  abbrev pub ohmsOf : List ℕ → OhmRow → List Cell
+  ohmsOf xs r = each (length xs) (λ j. ohmEnd r (getD xs j 0))
+
+  abbrev pub conesOf : List ℕ → List Cell
+  conesOf xs = each (length xs) (λ j. coneEnd (getD xs j 0))
+
+  unfoldable pub blocksOf : List ℕ → List Cell
+  blocksOf xs = ohmsOf xs pf ++ ohmsOf xs qf ++ ohmsOf xs pt ++ ohmsOf xs qt
