@@ -3,6 +3,7 @@
 use crate::clock::{growth, head, line};
 use crate::network::{Branch, Generator, Network, Shape};
 use crate::random::Random;
+use crate::records::read_once;
 use plain::Counts;
 use socwr::Net;
 use std::hint::black_box;
@@ -155,6 +156,7 @@ fn grow(small: &Case, large: &Case) {
     growth("A", || a.a(small.net()), || b.a(large.net()));
     growth("P, q, A, b", || a.all(small.net()), || b.all(large.net()));
     growth("the Rust's", || small.whole(), || large.whole());
+    growth("the records read once", || read_once(small.net().records), || read_once(large.net().records));
 }
 
 pub fn print() {

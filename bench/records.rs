@@ -19,7 +19,7 @@ fn usual(buses: u32) -> Shape {
 }
 
 /// The bytes read once, as 64-bit words.
-fn read_once(bytes: &[u8]) -> u64 {
+pub fn read_once(bytes: &[u8]) -> u64 {
     let (words, _) = bytes.as_chunks::<8>();
     words.iter().fold(0, |sum, w| sum.wrapping_add(u64::from_le_bytes(*w)))
 }

@@ -1,5 +1,6 @@
 /* SOCWR on the small controller: the entries of libkernel.a, for C99 and C++.
-   A slice is a pointer and then its length in elements; a length of 0 may come with any pointer.
+   A slice is a pointer and then its length in elements; a length of 0 may come with any pointer. What a call writes
+   to overlaps nothing else that is lent to it.
    A refusal changes nothing lent; output past the length needed is unchanged. */
 #ifndef SOCWR_H
 #define SOCWR_H
