@@ -1,5 +1,6 @@
 // The selector matrix: item o's weights in column o.
 use lists::inner::fill_f64;
+use lists::inner::wide;
 use refusals::Checked;
 use refusals::Refusal;
 use refusals::Written;
@@ -8,7 +9,6 @@ use refusals::room_for;
 use refusals::written_if;
 use sparse::inner::items_of;
 use sparse::inner::selector_fits;
-use sparse::inner::wide;
 ghost use mathlib.Core.Path.{_≡_};
 ghost use mathlib.Core.Bool.{true};
 ghost use Prim.Native.Nat.{ℕ, _+_, _*_, _≤_, _<_};

@@ -43,12 +43,6 @@ pub(crate) fn line(row: u32, rhs: f64, first: Spot, second: Spot) -> Line
     }
 }
 
-pub fn wide(x: u32) -> usize
-    ensures { λ r. ⌜ r ≡ x ⌝ }
-{
-    x as usize
-}
-
 // One of two numbers.
 pub(crate) fn pick(first: bool, a: f64, b: f64) -> f64
     ensures { λ r. ⌜ r ≡ cond first a b ⌝ }

@@ -14,7 +14,7 @@ use Rattle.manual.specs.Flows.{pointAt}
 use Rattle.manual.specs.Clarabel.{Nonnegative}
 use Rattle.manual.specs.Documents.{FromManual, FromClarabel, Idle, wub, wlb, pgub, pglb, qgub, qglb, angub, anglb}
 use Rattle.manual.proofs.RatioLaws.{ratio-law}
-use Rattle.manual.proofs.OhmLaws.{ohm-law, power-law, row-is}
+use Rattle.manual.proofs.OhmLaws.{ohm-law, power-law, row-is, at-voltages}
 use Rattle.manual.proofs.BalanceLaws.{pbal-law, qbal-law}
 use Rattle.manual.proofs.ZeroLaws.{pbal-zero, qbal-zero, ohm-zero}
 use Rattle.manual.proofs.ConeLaws.{wub-law, wlb-law, pgub-law, pglb-law, qgub-law, qglb-law, angub-law, anglb-law, cost-law, jabr-law, thermal-law, one-free}
@@ -45,6 +45,7 @@ module _ (G : AcNetwork ℤ) (x : ColumnName → ℤ) where
         ybr = ratio-law;
         powers = power-law;
         ohm = λ e r s. row-is G x e r ∙ ohm-law (G .branch e) (pointAt G x e) r (s .gfr) (s .gto) (s .bfr);
+        at-voltages = λ e r s vf vt. at-voltages G x e vf vt r (s .gfr) (s .gto) (s .bfr);
         shunt = shunt-law;
         active = pbal-law G x;
         reactive = qbal-law G x;

@@ -5,7 +5,7 @@ use mathlib.Core.Path.{_≡_}
 use mathlib.Core.Logic.{_↔_}
 use mathlib.Core.Bool.{true, false}
 use mathlib.Core.List.{[], _∷_}
-use lib.IntN.{ℤ, pos, _+ℤ_, _*ℤ_}
+use lib.IntN.{ℤ, pos, _+ℤ_, _-ℤ_, _*ℤ_}
 use lib.Signed.{_≤ℤ_}
 use Rattle.lists.specs.UpTo.{bit, sum}
 use Rattle.records.specs.AcNetwork.{Branch, AcNetwork}
@@ -37,6 +37,11 @@ pub record FromManual (G : AcNetwork ℤ) (x : ColumnName → ℤ) : Type 0 wher
   pub powers : (l : Line ℤ) (vf vt : Complex ℤ) (r : OhmRow) → fromW whole l vf vt r ≡ fromV whole l vf vt r
   -- an Ohm row's s, times 2 τ²: the manual's flow less the flow's column
   pub ohm : (e : ℕ) (r : OhmRow) → Symmetric (G .branch e) → slack whole G x (ohmRow r e) ≡ less whole (lineOf whole (G .branch e)) (pointAt G x e) r
+  -- both together: where the columns hold w_f, w_t and c of two voltages, an Ohm row's s, times 2 τ², is the manual's power less the flow's column
+  pub at-voltages : (e : ℕ) (r : OhmRow) → Symmetric (G .branch e) → (vf vt : Complex ℤ)
+      → x (W (G .from e)) ≡ square whole vf → x (W (G .to e)) ≡ square whole vt
+      → x (Wr e) ≡ _⊗_ whole vf (conj whole vt) .re → x (Wi e) ≡ _⊗_ whole vf (conj whole vt) .im
+      → slack whole G x (ohmRow r e) ≡ fromV whole (lineOf whole (G .branch e)) vf vt r -ℤ pos 2 *ℤ G .branch e .tm2 *ℤ x (flowColumn r e)
   -- section 3.6: a shunt's power
   pub shunt : (ysh v : Complex ℤ) → _⊗_ whole v (conj whole (_⊗_ whole ysh v)) ≡ _⊗_ whole (conj whole ysh) (real whole (square whole v))
   -- section 3.6: a balance row's s, times 2, is the mismatch, twice

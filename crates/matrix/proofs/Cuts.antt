@@ -8,7 +8,7 @@ use lib.Ieee.{Float, ne, neg}
 use borrow.Author.Tests.{eqb-true}
 use Rattle.lists.specs.UpTo.{upTo, each, when}
 use Rattle.lists.specs.Entries.{Cell}
-use Rattle.lists.proofs.Each.{when-true, when-false, when-nil, when-swap, when-append, each-nil, each-ext, each-when, each-at, each-at′, each-at-when, each-hit, each-group, each-three, each-four, when-pairs, when-order}
+use Rattle.lists.proofs.Each.{when-false, when-nil, when-swap, when-append, each-nil, each-ext, each-when, each-at, each-at′, each-at-when, each-hit, each-group, each-three, each-four, when-pairs, when-order}
 use Rattle.records.specs.AcNetwork.{AcNetwork}
 use Rattle.records.proofs.Sound.{Sound}
 use Rattle.numbering.specs.Numbering.{columnKey, columnBlocks, rowNumber}

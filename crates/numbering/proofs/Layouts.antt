@@ -16,12 +16,11 @@ use Rattle.records.specs.Network.{networkOf}
 use Rattle.records.specs.Network as Network
 use Rattle.records.proofs.Causes.{counts-in-range}
 use Rattle.numbering.specs.Blocks.{before, total}
-use Rattle.numbering.specs.Numbering.{limits, curves, nvar, ncon, rowBlocks, rowNumber}
-use Rattle.numbering.specs.Layout.{countedOf, layoutOf, layoutCause, InRange, layoutColumns, layoutRows, layoutRow}
+use Rattle.numbering.specs.Numbering.{limits, curves, nvar, ncon, rowBlocks}
+use Rattle.numbering.specs.Layout.{countedOf, layoutOf, layoutCause, InRange, layoutColumns, layoutRows}
 use Rattle.numbering.specs.Tally.{pointsOf, tallyOf}
 use Rattle.numbering.specs.declared.SocWrLayout.{SocWrLayout}
 use Rattle.numbering.specs.declared.Tally.the-variants.{Limited, Piecewise, Segments}
-use Rattle.numbering.specs.declared.RowName.the-variants.{Jabr}
 
 pub in-range : (l : SocWrLayout) → layoutCause l ≡ Accepted → InRange l
 unfolding layoutCause
@@ -110,9 +109,6 @@ module _ {A : Type 0} (G : AcNetwork A) where
 
   pub ncon-layout : sum (G .k) (G .segments) ≡ G .s → total (layoutRows (layoutOf G)) ≡ ncon G
   ncon-layout h = omega arith
-
-  pub jabr-layout : sum (G .k) (G .segments) ≡ G .s → (e q : ℕ) → layoutRow (layoutOf G) (Jabr e q) ≡ rowNumber G (Jabr e q)
-  jabr-layout h e q = omega arith
 
   pub thermal-layout : sum (G .k) (G .segments) ≡ G .s → before (layoutRows (layoutOf G)) 16 ≡ before (rowBlocks G) 16
   thermal-layout h = omega arith

@@ -3,7 +3,7 @@ use Prim.Native.Nat.{ℕ, _+_, _≤_, _<_}
 use mathlib.Core.Path.{_≡_, refl}
 use mathlib.Core.List.{List}
 use Rattle.lists.specs.UpTo.{upTo}
-use Rattle.lists.proofs.Sums.{sum-next, sum-mono, sum-later, sum-some}
+use Rattle.lists.proofs.Sums.{sum-next, sum-later, sum-some}
 use Rattle.numbering.specs.Tally.{pointsOf, tallyOf}
 use Rattle.numbering.specs.declared.Tally.{Tally}
 
@@ -15,10 +15,6 @@ module _ (t : Tally) (b : List ℕ) (first : ℕ) where
   pub tally-more : (i : ℕ) → tallyOf t b first (i + 1) ≡ tallyOf t b first i + pointsOf t b (first + i)
   unfolding tallyOf
   tally-more i = sum-next i (λ j. pointsOf t b (first + j))
-
-  pub tally-up : (i n : ℕ) → i ≤ n → tallyOf t b first i ≤ tallyOf t b first n
-  unfolding tallyOf
-  tally-up i n h = sum-mono i n (λ j. pointsOf t b (first + j)) h
 
   -- a point past record i is in a later one
   pub tally-later : (i count p rest : ℕ) → i < count → p < tallyOf t b first count → tallyOf t b first i + rest ≡ p

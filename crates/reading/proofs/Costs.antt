@@ -57,10 +57,6 @@ module _ (slope intercept : ℕ → Float) (x : Float) where
 abbrev pub total-so-far : AcNetwork Float → List Float → ℕ → Float
 total-so-far G x g = upTo (add binary64) (neg zero64) (λ g. generatorCost G g (getD x (columnNumber G (Pg g)) nan)) g
 
-pub total-none : (G : AcNetwork Float) (x : List Float) → neg zero64 ≡ total-so-far G x 0
-unfolding upTo
-total-none G x = refl
-
 pub total-all : (G : AcNetwork Float) (x : List Float) → total-so-far G x (G .k) ≡ totalCost G x
 unfolding totalCost
 total-all G x = refl

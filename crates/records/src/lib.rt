@@ -1,4 +1,5 @@
 // The check of a network's records.
+use lists::inner::bit;
 use refusals::Checked;
 use refusals::Refusal;
 use refusals::is_refused;
@@ -7,7 +8,6 @@ use refusals::refuse_unless;
 ghost use mathlib.Core.Path.{_≡_};
 ghost use Prim.Native.Nat.{_+_, _*_, _≤_, _<_, min};
 ghost use lib.ListN.{length};
-ghost use Rattle.lists.specs.UpTo.{bit as one};
 ghost use Rattle.refusals.specs.Refusals.{_orElse_};
 ghost use Rattle.refusals.specs.declared.Checked.the-variants.{Accepted};
 ghost use Rattle.records.specs.Check.{zeroFloats, busForm, branchForm, genForm, segmentForm, busCause, branchCause, genCause, segmentCause, firstCause, recordCauses, countSum, countCause, lengthCause, sumCause, checkOf};
@@ -133,16 +133,6 @@ fn segment_cause(b: &[u8], r: usize) -> Checked
     ensures { λ x. ⌜ x ≡ segmentCause (now (b .entry)) r ⌝ }
 {
     refuse_unless(segment_form(b, r), Refusal::BadRecord(r as u64))
-}
-
-fn bit(x: bool) -> usize
-    ensures { λ r. ⌜ r ≡ one x ⌝ }
-    ensures { λ r. ⌜ r ≤ 1 ⌝ }
-{
-    if x {
-        return 1;
-    }
-    0
 }
 
 // The first cause of the buses from record first on.

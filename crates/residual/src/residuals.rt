@@ -1,5 +1,6 @@
 // The residual pass of `solve_refined`: the right-hand side less the matrix times the answer.
 use lists::inner::copy_f64;
+use lists::inner::wide;
 use refusals::Checked;
 use refusals::Refusal;
 use refusals::Written;
@@ -8,7 +9,6 @@ use refusals::room_for;
 use refusals::written_if;
 use sparse::inner::bounded;
 use sparse::inner::entries_fit;
-use sparse::inner::wide;
 ghost use mathlib.Core.Path.{_≡_};
 ghost use mathlib.Core.Bool.{true};
 ghost use Prim.Native.Nat.{_*_, _≤_, _<_};

@@ -1,17 +1,12 @@
 // Whether the lists of an entry fit together: number 12's causes.
+use lists::inner::wide;
 ghost use mathlib.Core.Path.{_≡_};
-ghost use Prim.Native.Nat.{_+_, _≤_, _<_, _^_};
+ghost use Prim.Native.Nat.{_+_, _≤_, _<_};
 ghost use lib.Dec.{leb};
 ghost use lib.ListN.{length};
 ghost use Rattle.lists.specs.UpTo.{all};
 ghost use Rattle.sparse.specs.Sparse.{itemsOf, startOf};
 ghost use Rattle.sparse.specs.Checks.{bounded as boundedOf, allBelow, entriesFit, startsFit, selectorFits};
-
-pub fn wide(x: u32) -> usize
-    ensures { λ r. ⌜ (r ≡ x) × (r < 2 ^ 32) ⌝ }
-{
-    x as usize
-}
 
 pub fn items_of(starts: &[u32]) -> usize
     ensures { λ r. ⌜ r ≡ itemsOf (now (starts .entry)) ⌝ }

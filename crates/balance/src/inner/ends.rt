@@ -1,6 +1,6 @@
 // The ends that balance rows add up: generators, and branches at their from and to buses.
 use crate::End;
-use lines::inner::wide;
+use lists::inner::wide;
 use numbering::SocWrLayout;
 use numbering::inner::col_pf;
 use numbering::inner::col_pg;

@@ -1,9 +1,9 @@
 // The rows of the second-order cones.
-use crate::inner::segments::bit;
 use complementarity::inner::cones::put_lines;
 use lines::inner::cones::jabr;
 use lines::inner::cones::thermal_from;
 use lines::inner::cones::thermal_to;
+use lists::inner::bit;
 use numbering::SocWrLayout;
 use numbering::inner::nvar;
 use records::inner::thermal_limit_active;

@@ -1,6 +1,7 @@
 // The rows of the cost segments.
 use complementarity::inner::single::put_row;
 use lines::inner::generators::segment;
+use lists::inner::bit;
 use numbering::SocWrLayout;
 use numbering::inner::nvar;
 use records::inner::piecewise;
@@ -9,7 +10,7 @@ ghost use mathlib.Core.Path.{_≡_};
 ghost use Prim.Native.Nat.{_+_, _<_, _^_};
 ghost use lib.ListN.{length};
 ghost use Rattle.lists.specs.Out.{out, Wrote};
-ghost use Rattle.lists.specs.UpTo.{sum, count, each, bit as one};
+ghost use Rattle.lists.specs.UpTo.{sum, count, each};
 ghost use Rattle.numbering.specs.declared.RowName.the-variants.{Segment};
 ghost use Rattle.numbering.specs.Laid.{netOf};
 ghost use Rattle.complementarity.specs.Writes.{Given, rowIn};
@@ -84,17 +85,6 @@ fn segments_of(
         t += 1;
     }
     next
-}
-
-// 1 where the test holds, else 0.
-pub(crate) fn bit(x: bool) -> usize
-    ensures { λ r. ⌜ r ≡ one x ⌝ }
-    ensures { λ r. ⌜ r < 2 ⌝ }
-{
-    if x {
-        return 1;
-    }
-    0
 }
 
 pub fn segment_rows(

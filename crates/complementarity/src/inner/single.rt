@@ -1,9 +1,9 @@
 // One row of at most two terms.
 use lines::Line;
 use lines::Spot;
-use lines::inner::wide;
 use lists::inner::put;
 use lists::inner::put_if;
+use lists::inner::wide;
 ghost use mathlib.Core.Path.{_≡_};
 ghost use Prim.Native.Nat.{_+_, _<_, _^_};
 ghost use lib.ListN.{length};

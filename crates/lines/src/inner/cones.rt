@@ -2,9 +2,9 @@
 use super::line;
 use super::single;
 use super::spot;
-use super::wide;
 use crate::Cone;
 use crate::Line;
+use lists::inner::wide;
 use numbering::SocWrLayout;
 use numbering::inner::col_pf;
 use numbering::inner::col_pt;

@@ -1,7 +1,7 @@
 // The Ohm rows of a branch.
-use super::wide;
 use crate::Ohm;
 use branch::inner::series;
+use lists::inner::wide;
 use numbering::SocWrLayout;
 use numbering::inner::col_pf;
 use numbering::inner::col_pt;

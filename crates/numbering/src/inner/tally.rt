@@ -1,21 +1,11 @@
 // Counts over the records of a kind: how many points the records before one have, and which record a point is in.
 use crate::Place;
 use crate::Tally;
+use lists::inner::bit;
 ghost use mathlib.Core.Path.{_≡_};
 ghost use Prim.Native.Nat.{_+_, _*_, _≤_, _<_};
 ghost use lib.ListN.{length};
-ghost use Rattle.lists.specs.UpTo.{bit as one};
 ghost use Rattle.numbering.specs.Tally.{tallyOf, pointsOf, Located};
-
-fn bit(x: bool) -> usize
-    ensures { λ r. ⌜ r ≡ one x ⌝ }
-    ensures { λ r. ⌜ r ≤ 1 ⌝ }
-{
-    if x {
-        return 1;
-    }
-    0
-}
 
 // The points of record r.
 fn points(b: &[u8], t: Tally, r: usize) -> usize

@@ -11,11 +11,11 @@ use coefficients::OhmRow;
 use coefficients::Products;
 use coefficients::inner::wi_products;
 use coefficients::inner::wr_products;
+use lists::inner::bit;
 use lists::inner::store_u32;
 use numbering::SocWrLayout;
 ghost use mathlib.Core.Path.{_≡_};
 ghost use Prim.Native.Nat.{_+_, _*_, _≤_, _<_};
-ghost use Rattle.lists.specs.UpTo as UpTo;
 ghost use Rattle.lists.specs.UpTo.{listed, count};
 ghost use Rattle.lists.specs.Compressed.{cellOut, WroteCells};
 ghost use Rattle.numbering.specs.Numbering.{rowNumber};
@@ -239,15 +239,6 @@ fn put_flow(
     let balance = balance_row(q, l, bytes, bus);
     let ohm = ohm_row(q, l, bytes, e);
     put_flow_cells(rows, vals, at, balance, ohm, on, thermal)
-}
-
-fn bit(on: bool) -> usize
-    ensures { λ r. ⌜ r ≡ UpTo.bit on ⌝ }
-{
-    if on {
-        return 1;
-    }
-    0
 }
 
 // The columns of one flow, from column col on.

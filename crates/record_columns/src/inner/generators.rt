@@ -1,13 +1,13 @@
 // The generator columns of A, and the cost columns.
 use cells::inner::put;
 use cells::inner::put_nonzero;
+use lists::inner::bit;
 use lists::inner::store_u32;
 use numbering::SocWrLayout;
 ghost use mathlib.Core.Path.{_≡_};
 ghost use mathlib.Core.List.{[], _∷_};
 ghost use Prim.Native.Nat.{_+_, _*_, _≤_, _<_};
 ghost use lib.ListN.{length};
-ghost use Rattle.lists.specs.UpTo as UpTo;
 ghost use Rattle.lists.specs.UpTo.{each, listed, when, sum};
 ghost use Rattle.lists.specs.Compressed.{cellOut, WroteCells};
 ghost use Rattle.matrix.specs.Columns.{pgCells, qgCells};
@@ -221,15 +221,6 @@ fn put_cost(
         return next;
     }
     at
-}
-
-fn bit(on: bool) -> usize
-    ensures { λ r. ⌜ r ≡ UpTo.bit on ⌝ }
-{
-    if on {
-        return 1;
-    }
-    0
 }
 
 // The cost columns.

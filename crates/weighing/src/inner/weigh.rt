@@ -1,6 +1,6 @@
 // Segments of rows and weights by the columns of a dense matrix: what both combinations are made of.
 // Two columns go together, so that one sum need not wait for the other.
-use sparse::inner::wide;
+use lists::inner::wide;
 ghost use mathlib.Core.Path.{_≡_};
 ghost use Prim.Native.Nat.{ℕ, _+_, _*_, _^_, _≤_, _<_};
 ghost use lib.ListN.{length, getD};

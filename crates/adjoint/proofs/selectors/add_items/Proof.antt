@@ -15,7 +15,7 @@ use Rattle.adjoint.proofs.selectors.add_items.Statement.{statement}
 use Rattle.adjoint.proofs.selectors.add_items.Tie as tie
 use Rattle.adjoint.proofs.selectors.add_items.Reads as reads
 use Rattle.adjoint.proofs.selectors.add_items.Lts as lts
-use Rattle.sparse.proofs.inner.wide.Reads as wide-reads
+use Rattle.lists.proofs.inner.wide.Reads as wide-reads
 use Rattle.adjoint.proofs.selectors.add_weights.Reads as add-weights-reads
 
 abbrev Inv-loop : tie.InvT-loop

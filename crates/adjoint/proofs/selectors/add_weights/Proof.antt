@@ -16,7 +16,7 @@ use Rattle.adjoint.proofs.selectors.add_weights.Statement.{statement}
 use Rattle.adjoint.proofs.selectors.add_weights.Tie as tie
 use Rattle.adjoint.proofs.selectors.add_weights.Reads as reads
 use Rattle.adjoint.proofs.selectors.add_weights.Lts as lts
-use Rattle.sparse.proofs.inner.wide.Reads as wide-reads
+use Rattle.lists.proofs.inner.wide.Reads as wide-reads
 
 abbrev Inv-loop : tie.InvT-loop
 Inv-loop out₀ base dim rows weights first past count k₀ out k = (k ≤ count) × (count ≡ past - first) × (length out ≡ length out₀) × (out ≡ through (addWeight base) (each k (λ j. cell (getD rows (first + j) 0) (getD weights (first + j) nan) ∷ [])) out₀)

@@ -6,7 +6,7 @@ use Rattle.sparse.proofs.inner.starts_fit.Tie as tie
 use Rattle.sparse.proofs.inner.starts_fit.Reads as reads
 use Rattle.sparse.proofs.inner.starts_fit.Lts as lts
 use Rattle.sparse.proofs.inner.rising.Reads as rising-reads
-use Rattle.sparse.proofs.inner.wide.Reads as wide-reads
+use Rattle.lists.proofs.inner.wide.Reads as wide-reads
 
 -- src/inner.rt:68:21
 sub-items : tie.Need-sub-items

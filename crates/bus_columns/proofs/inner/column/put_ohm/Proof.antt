@@ -18,15 +18,15 @@ unfolding ohmEnd ohmCell
 returns c =
     let a = c .before .before .before .before .before .before .before .before .before .before .before .before .before .before .before .before .before .before .args in
     let t : eqb (a .x % 2) (sideOf (rowKind (a .q))) ≡ true = eq-eqb _ _ (c .before .before .before .before .before .before .before .before .before .before .before .before .if1 .taken ∙ c .before .before .before .before .before .before .before .before .before .before .before .before .before .side .ensures) in
-    let e : ltb (a .x / 2) (a .l .m) ≡ true = lt-ltb (a .x / 2) (a .l .m) (omega (arith, c .before .before .before .before .before .before .before .before .before .before .before .before .before .before .wide .ensures, c .before .before .before .before .before .before .before .before .before .before .if2 .taken)) in
-    (rw (t, e) (rw (c .before .before .before .before .before .before .before .before .before .ohm-row .ensures, c .before .before .before .before .before .before .before .w-value .ensures, c .before .before .before .before .before .before .before .before .before .before .before .before .before .before .wide .ensures) at (c .before .before .before .before .put-nonzero .ensures .0)), omega arith)
+    let e : ltb (a .x / 2) (a .l .m) ≡ true = lt-ltb (a .x / 2) (a .l .m) (omega (arith, c .before .before .before .before .before .before .before .before .before .before .before .before .before .before .wide .ensures .0, c .before .before .before .before .before .before .before .before .before .before .if2 .taken)) in
+    (rw (t, e) (rw (c .before .before .before .before .before .before .before .before .before .ohm-row .ensures, c .before .before .before .before .before .before .before .w-value .ensures, c .before .before .before .before .before .before .before .before .before .before .before .before .before .before .wide .ensures .0) at (c .before .before .before .before .put-nonzero .ensures .0)), omega arith)
 
 returns-2 : tie.Need-returns-2
 unfolding ohmEnd
 returns-2 c =
     let a = c .before .before .before .before .before .before .before .before .args in
     let t : eqb (a .x % 2) (sideOf (rowKind (a .q))) ≡ true = eq-eqb _ _ (c .before .before .if1 .taken ∙ c .before .before .before .side .ensures) in
-    let e : ltb (a .x / 2) (a .l .m) ≡ false = le-ltb (a .x / 2) (a .l .m) (omega (arith, c .before .before .before .before .wide .ensures, c .if2 .left)) in
+    let e : ltb (a .x / 2) (a .l .m) ≡ false = le-ltb (a .x / 2) (a .l .m) (omega (arith, c .before .before .before .before .wide .ensures .0, c .if2 .left)) in
     (rw (t, e) wrote-none, omega arith)
 
 returns-3 : tie.Need-returns-3

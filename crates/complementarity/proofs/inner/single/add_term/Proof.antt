@@ -5,7 +5,7 @@ use Rattle.complementarity.proofs.inner.single.add_term.Statement.{stat
 use Rattle.complementarity.proofs.inner.single.add_term.Tie as tie
 
 returns : tie.Need-returns
-returns c = rw (c .before .before .if1 .taken, c .before .before .before .wide .ensures)
+returns c = rw (c .before .before .if1 .taken, c .before .before .before .wide .ensures .0)
 
 pub add-term-spec : {M : Type 1} → statement M
-add-term-spec = tie.close (tie.spec (λ c κs. search needs) (λ c. search needs) (λ c. omega (arith, c .before .before .wide .ensures)) returns (λ c. rw (c .if1 .left)))
+add-term-spec = tie.close (tie.spec (λ c κs. search needs) (λ c. search needs) (λ c. omega (arith, c .before .before .wide .ensures .0)) returns (λ c. rw (c .if1 .left)))

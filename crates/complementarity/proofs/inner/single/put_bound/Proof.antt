@@ -11,18 +11,18 @@ add-r : tie.Need-add-r
 add-r c = record { fits = omega (arith, c .before .before .before .before .before .before .before .pre .0 .row, c .before .before .before .before .before .before .before .pre .1 .0) }
 
 shared-slice-read-f : tie.Need-shared-slice-read-f
-shared-slice-read-f c = omega (arith, c .before .before .wide .ensures, c .before .before .before .before .before .before .before .before .pre .0 .row)
+shared-slice-read-f c = omega (arith, c .before .before .wide .ensures .0, c .before .before .before .before .before .before .before .before .pre .0 .row)
 
 put-scaled-requires : tie.Need-put-scaled-requires
 unfolding boundLine
-put-scaled-requires c κs = rw (c .before .before .before .before .before .wide .ensures) (let h = simp length-append at (c .before .before .before .before .before .before .before .before .before .before .before .pre .1 .1) in omega arith)
+put-scaled-requires c κs = rw (c .before .before .before .before .before .wide .ensures .0) (let h = simp length-append at (c .before .before .before .before .before .before .before .before .before .before .before .pre .1 .1) in omega arith)
 
 slack-requires : tie.Need-slack-requires
 slack-requires c κs = (c .before .before .before .before .before .before .before .before .before .before .before .before .before .before .before .before .before .before .before .before .before .pre .0 .first, c .before .before .before .before .before .before .before .before .before .before .before .before .before .before .before .before .before .before .before .before .before .pre .0 .second)
 
 put-requires : tie.Need-put-requires
 unfolding boundLine
-put-requires c κs = let h = simp length-append at (c .before .before .before .before .before .before .before .before .before .before .before .before .before .before .before .before .before .before .before .before .before .before .pre .1 .1) in omega (arith, pos (rw (c .before .before .before .before .before .before .before .before .before .before .before .before .before .before .before .before .wide .ensures) at (c .before .before .before .before .before .before .before .before .before .before .put-scaled .ensures)))
+put-requires c κs = let h = simp length-append at (c .before .before .before .before .before .before .before .before .before .before .before .before .before .before .before .before .before .before .before .before .before .before .pre .1 .1) in omega (arith, pos (rw (c .before .before .before .before .before .before .before .before .before .before .before .before .before .before .before .before .wide .ensures .0) at (c .before .before .before .before .before .before .before .before .before .before .put-scaled .ensures)))
 
 same-length : tie.Need-same-length
 same-length c = len-rows (then (c .before .before .before .before .before .before .before .before .before .before .before .before .before .before .before .before .before .put-scaled .ensures) (c .before .before .before .before .before .before .put .ensures))
@@ -35,7 +35,7 @@ same-length-3 c = len-vals (then (c .before .before .before .before .before .bef
 
 returns : tie.Need-returns
 unfolding boundLine
-returns c = then (rw (c .before .before .before .before .before .before .before .before .before .before .before .before .before .before .before .before .before .before .before .before .before .before .before .wide .ensures) at (c .before .before .before .before .before .before .before .before .before .before .before .before .before .before .before .before .before .put-scaled .ensures)) (rw (c .before .before .before .before .before .before .before .slack .ensures) at (c .before .before .before .before .before .before .put .ensures))
+returns c = then (rw (c .before .before .before .before .before .before .before .before .before .before .before .before .before .before .before .before .before .before .before .before .before .before .before .wide .ensures .0) at (c .before .before .before .before .before .before .before .before .before .before .before .before .before .before .before .before .before .put-scaled .ensures)) (rw (c .before .before .before .before .before .before .before .slack .ensures) at (c .before .before .before .before .before .before .put .ensures))
 
 pub put-bound-spec : {M : Type 1} → statement M
 put-bound-spec = tie.close (tie.spec (λ c κs. search needs) add-r (λ c. search needs) shared-slice-read-f put-scaled-requires slack-requires put-requires same-length same-length-2 same-length-3 returns)

@@ -33,7 +33,7 @@ cast-store-u32 : tie.Need-cast-store-u32 Inv-loop μ-loop
 cast-store-u32 c = omega (arith, c .before .before .before .before .before .put-flow .ensures .1, c .before .before .before .before .before .before .before .before .before .loop .inv .4, c .before .before .before .before .before .before .before .before .before .before .before .before .before .before .pre .1, c .before .before .before .before .before .before .before .before .before .before .before .before .before .before .pre .0 .range .m-range)
 
 add-rank : tie.Need-add-rank Inv-loop μ-loop
-add-rank c = omega (arith, c .bit .ensures, bit-le (c .before .thermal-limit-active .result), c .before .before .before .before .before .before .before .before .before .before .before .before .before .before .before .loop .inv .3, c .before .before .before .before .before .before .before .before .before .before .before .before .before .before .before .before .before .before .before .before .pre .0 .range .m-range)
+add-rank c = omega (arith, c .bit .ensures .0, bit-le (c .before .thermal-limit-active .result), c .before .before .before .before .before .before .before .before .before .before .before .before .before .before .before .loop .inv .3, c .before .before .before .before .before .before .before .before .before .before .before .before .before .before .before .before .before .before .before .before .pre .0 .range .m-range)
 
 loop-again : tie.Need-loop-again Inv-loop μ-loop
 loop-again c =
@@ -41,8 +41,8 @@ loop-again c =
     let G = netOf (a .l) (now (a .bytes)) in (
       omega arith,
       c .before .before .before .before .before .before .before .before .before .before .before .before .before .before .before .loop .inv .1,
-      omega (arith, c .bit .ensures, ap bit (c .before .thermal-limit-active .ensures), c .before .before .before .before .before .before .before .before .before .before .before .before .before .before .before .loop .inv .2, sum-next (c .before .before .before .before .before .before .before .before .before .before .before .before .before .before .before .loop .e) (λ i. bit (G .limited i))),
-      omega (arith, c .bit .ensures, bit-le (c .before .thermal-limit-active .result), c .before .before .before .before .before .before .before .before .before .before .before .before .before .before .before .loop .inv .3),
+      omega (arith, c .bit .ensures .0, ap bit (c .before .thermal-limit-active .ensures), c .before .before .before .before .before .before .before .before .before .before .before .before .before .before .before .loop .inv .2, sum-next (c .before .before .before .before .before .before .before .before .before .before .before .before .before .before .before .loop .e) (λ i. bit (G .limited i))),
+      omega (arith, c .bit .ensures .0, bit-le (c .before .thermal-limit-active .result), c .before .before .before .before .before .before .before .before .before .before .before .before .before .before .before .loop .inv .3),
       omega (arith, c .before .before .before .before .before .before .before .before .before .before .before .put-flow .ensures .1, c .before .before .before .before .before .before .before .before .before .before .before .before .before .before .before .loop .inv .4),
       columns-more _ (c .before .before .before .before .before .before .before .before .before .before .before .before .before .before .before .loop .inv .5) (c .before .before .before .before .before .before .before .before .before .before .before .put-flow .ensures .0) (c .before .before .before .before .before .store-u32 .ensures) (omega arith),
     )

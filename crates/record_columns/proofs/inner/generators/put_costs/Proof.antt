@@ -56,7 +56,7 @@ add-c-3 c =
     let r = c .before .before .before .before .before .before .before .before .before .before .before .before .before .before .before .before .before .before .before .before .before .before .before .before .pre .0 in
     let h = segments-next (a .l) b r (c .before .before .before .before .before .before .before .before .before .before .before .before .before .before .before .loop .g) (omega arith) in
     let u = each-le (c .before .before .before .before .before .before .before .before .before .before .before .before .before .before .before .loop .g) 1 (costTurn (netOf (a .l) b)) (λ i. turn-le (a .l) b i) in
-    omega (arith, u, c .before .before .before .before .before .before .before .before .before .before .before .before .before .before .before .loop .inv .5, c .bit .ensures, bit-le (c .before .before .before .before .before .before .before .before .before .before .before .before .piecewise .result), r .range .n-range, r .range .m-range, r .range .k-range)
+    omega (arith, u, c .before .before .before .before .before .before .before .before .before .before .before .before .before .before .before .loop .inv .5, c .bit .ensures .0, bit-le (c .before .before .before .before .before .before .before .before .before .before .before .before .piecewise .result), r .range .n-range, r .range .m-range, r .range .k-range)
 
 add-seg : tie.Need-add-seg Inv-loop μ-loop
 add-seg c =
@@ -82,7 +82,7 @@ loop-again c =
       c .before .before .before .before .before .before .before .before .before .before .before .before .before .before .before .loop .inv .2,
       omega (arith, n, c .before .before .before .before .before .before .before .before .before .before .before .before .before .before .before .loop .inv .3, sum-next (c .before .before .before .before .before .before .before .before .before .before .before .before .before .before .before .loop .g) (netOf (a .l) b .segments)),
       omega (arith, c .before .before .before .before .before .before .before .put-cost .ensures .1, c .before .before .before .before .before .before .before .before .before .before .before .before .before .before .before .loop .inv .4),
-      omega (arith, c .before .before .before .before .before .before .before .before .before .before .before .before .before .before .before .loop .inv .5, c .bit .ensures, ap bit p, turn-length (a .l) b (c .before .before .before .before .before .before .before .before .before .before .before .before .before .before .before .loop .g), ap length (each-more (costTurn (netOf (a .l) b)) (c .before .before .before .before .before .before .before .before .before .before .before .before .before .before .before .loop .g)), length-append (each (c .before .before .before .before .before .before .before .before .before .before .before .before .before .before .before .loop .g) (costTurn (netOf (a .l) b))) (costTurn (netOf (a .l) b) (c .before .before .before .before .before .before .before .before .before .before .before .before .before .before .before .loop .g))),
+      omega (arith, c .before .before .before .before .before .before .before .before .before .before .before .before .before .before .before .loop .inv .5, c .bit .ensures .0, ap bit p, turn-length (a .l) b (c .before .before .before .before .before .before .before .before .before .before .before .before .before .before .before .loop .g), ap length (each-more (costTurn (netOf (a .l) b)) (c .before .before .before .before .before .before .before .before .before .before .before .before .before .before .before .loop .g)), length-append (each (c .before .before .before .before .before .before .before .before .before .before .before .before .before .before .before .loop .g) (costTurn (netOf (a .l) b))) (costTurn (netOf (a .l) b) (c .before .before .before .before .before .before .before .before .before .before .before .before .before .before .before .loop .g))),
       turned (a .l) b (c .before .before .before .before .before .before .before .before .before .before .before .before .before .before .before .loop .g) (c .before .before .before .before .before .before .before .before .before .before .before .before .before .before .before .loop .inv .6) (c .before .before .before .before .before .before .before .before .before .before .before .before .before .before .before .loop .inv .5) w,
     )
 

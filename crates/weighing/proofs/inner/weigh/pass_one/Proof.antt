@@ -14,7 +14,7 @@ use Rattle.weighing.proofs.inner.weigh.pass_one.Statement.{statement}
 use Rattle.weighing.proofs.inner.weigh.pass_one.Tie as tie
 use Rattle.weighing.proofs.inner.weigh.pass_one.Reads as reads
 use Rattle.weighing.proofs.inner.weigh.pass_one.Lts as lts
-use Rattle.sparse.proofs.inner.wide.Reads as wide-reads
+use Rattle.lists.proofs.inner.wide.Reads as wide-reads
 use Rattle.weighing.proofs.inner.weigh.weigh_one.Reads as weigh-one-reads
 
 abbrev Inv-loop : tie.InvT-loop

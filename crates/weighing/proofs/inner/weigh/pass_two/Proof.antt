@@ -14,7 +14,7 @@ use Rattle.weighing.proofs.inner.weigh.pass_two.Statement.{statement}
 use Rattle.weighing.proofs.inner.weigh.pass_two.Tie as tie
 use Rattle.weighing.proofs.inner.weigh.pass_two.Reads as reads
 use Rattle.weighing.proofs.inner.weigh.pass_two.Lts as lts
-use Rattle.sparse.proofs.inner.wide.Reads as wide-reads
+use Rattle.lists.proofs.inner.wide.Reads as wide-reads
 use Rattle.weighing.proofs.inner.weigh.weigh_two.Reads as weigh-two-reads
 
 abbrev Inv-loop : tie.InvT-loop

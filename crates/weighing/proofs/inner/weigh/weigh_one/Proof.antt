@@ -16,7 +16,7 @@ use Rattle.weighing.proofs.inner.weigh.weigh_one.Statement.{statement}
 use Rattle.weighing.proofs.inner.weigh.weigh_one.Tie as tie
 use Rattle.weighing.proofs.inner.weigh.weigh_one.Reads as reads
 use Rattle.weighing.proofs.inner.weigh.weigh_one.Lts as lts
-use Rattle.sparse.proofs.inner.wide.Reads as wide-reads
+use Rattle.lists.proofs.inner.wide.Reads as wide-reads
 
 abbrev Inv-loop : tie.InvT-loop
 Inv-loop x base dim rows weights first past a count sum₀ k₀ sum k = (k ≤ count) × (count ≡ past - first) × (sum ≡ through (weigh x base) (each k (λ j. cell (getD rows (first + j) 0) (getD weights (first + j) nan) ∷ [])) a)

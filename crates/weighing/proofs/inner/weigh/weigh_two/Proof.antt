@@ -16,7 +16,7 @@ use Rattle.weighing.proofs.inner.weigh.weigh_two.Statement.{statement}
 use Rattle.weighing.proofs.inner.weigh.weigh_two.Tie as tie
 use Rattle.weighing.proofs.inner.weigh.weigh_two.Reads as reads
 use Rattle.weighing.proofs.inner.weigh.weigh_two.Lts as lts
-use Rattle.sparse.proofs.inner.wide.Reads as wide-reads
+use Rattle.lists.proofs.inner.wide.Reads as wide-reads
 
 abbrev Inv-loop : tie.InvT-loop
 Inv-loop x base other dim rows weights first past count a₀ b₀ k₀ a b k = (k ≤ count) × (count ≡ past - first) × (a ≡ through (weigh x base) (each k (λ j. cell (getD rows (first + j) 0) (getD weights (first + j) nan) ∷ [])) a₀) × (b ≡ through (weigh x other) (each k (λ j. cell (getD rows (first + j) 0) (getD weights (first + j) nan) ∷ [])) b₀)
