@@ -65,8 +65,10 @@ pub fn line<T, U>(what: &str, ours: impl FnMut() -> T, rust: impl FnMut() -> U) 
     println!("  {what:<46}{:>12}{:>12}{:>8.2}", shown(a), shown(b), a / b);
 }
 
-/// How much longer a call takes at 4,096 buses than at 1,024, the two taking turns.
-pub fn growth<T, U>(what: &str, small: impl FnMut() -> T, large: impl FnMut() -> U) {
-    let (a, b) = two(4 * ROUNDS, small, large);
-    println!("  {what}: {} at 1,024 buses, {} at 4,096, {:.2} times as long", shown(a), shown(b), b / a);
+/// How much longer a call takes at 4,096 buses than at 1,024: the two taking turns, and each by itself.
+pub fn growth<T, U>(what: &str, mut small: impl FnMut() -> T, mut large: impl FnMut() -> U) {
+    let (a, b) = two(4 * ROUNDS, &mut small, &mut large);
+    let (c, d) = (one(small), one(large));
+    let [turns, alone] = [(a, b), (c, d)].map(|(a, b)| format!("{} and {}, {:.2} times", shown(a), shown(b), b / a));
+    println!("  {what:<24} in turns {turns}; by itself {alone}");
 }

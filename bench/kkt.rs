@@ -66,7 +66,7 @@ pub fn print() {
     for case in &cases {
         case.lines();
     }
-    println!("\nThe two sizes in turns:");
+    println!("\n1,024 and 4,096 buses, and how many times as long:");
     let [_, _, small, large] = &cases;
     for (what, length) in
         [("into demand 3's bound", [small.bound, large.bound]), ("into exactly enough", [small.need, large.need])]

@@ -33,6 +33,17 @@ fn hub(buses: u32) -> Shape {
     Shape { branches: branches.collect(), ..usual(buses) }
 }
 
+/// As many, with the ends of every branch at any two buses.
+fn scattered(buses: u32) -> Shape {
+    let random = &mut Random::new(7);
+    let mut branch = |e: u32| {
+        let from = random.below(buses as u64) as u32;
+        let to = (from + 1 + random.below(buses as u64 - 1) as u32) % buses;
+        Branch { from, to, flags: (e % 4) as u8 }
+    };
+    Shape { branches: (0..buses * 2).map(&mut branch).collect(), ..usual(buses) }
+}
+
 /// The network with plain floats, so that no time goes into rare ones.
 fn plain_network(shape: &Shape) -> Network {
     let random = &mut Random::new(5);
@@ -149,8 +160,8 @@ fn one_size(title: &str, case: &Case) {
 }
 
 /// The growth of the program.
-fn grow(small: &Case, large: &Case) {
-    println!("\nThe two sizes in turns:");
+fn grow(title: &str, small: &Case, large: &Case) {
+    println!("\n{title}: 1,024 and 4,096 buses, and how many times as long:");
     let mut rooms = [small.generous(), large.generous()];
     let [a, b] = &mut rooms;
     growth("A", || a.a(small.net()), || b.a(large.net()));
@@ -167,5 +178,8 @@ pub fn print() {
         one_size("usual", case);
     }
     one_size("hub", &Case::new(&hub(4096)));
-    grow(&cases[2], &cases[3]);
+    let anywhere = [1024, 4096].map(|buses| Case::new(&scattered(buses)));
+    one_size("scattered", &anywhere[1]);
+    grow("usual", &cases[2], &cases[3]);
+    grow("scattered", &anywhere[0], &anywhere[1]);
 }
