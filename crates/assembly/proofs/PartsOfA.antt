@@ -5,9 +5,10 @@ use mathlib.Core.List.{List, _++_, append-assoc}
 use native.Mathlib.Omega.{arith}
 use lib.ListN.{length, length-append}
 use lib.Ieee.{Float}
-use Rattle.lists.specs.UpTo.{each, listed}
+use Rattle.lists.specs.UpTo.{each, listed, sum}
 use Rattle.lists.specs.Entries.{Cell}
 use Rattle.lists.specs.Compressed.{joined, startsFrom}
+use Rattle.lists.proofs.Sums.{each-length, sum-le, sum-mul, sum-ones}
 use Rattle.lists.proofs.Compressed.{joined-listed, joined-append, starts-length}
 use Rattle.records.specs.AcNetwork.{AcNetwork}
 use Rattle.records.proofs.Sound.{sound}
@@ -16,10 +17,12 @@ use Rattle.numbering.specs.Layout.{layoutColumns}
 use Rattle.numbering.specs.Laid.{netOf, Laid}
 use Rattle.numbering.specs.declared.SocWrLayout.{SocWrLayout}
 use Rattle.numbering.proofs.Laid.{nvar-number}
-use Rattle.rows.specs.Rows.{pf, qf, pt, qt}
+use Rattle.rows.specs.Rows.{OhmRow, pf, qf, pt, qt}
 use Rattle.rows.specs.Program.{matrix}
-use Rattle.matrix.specs.Columns.{pgCells, qgCells, wCells, wrCells, wiCells, flowCells}
+use Rattle.matrix.specs.Columns.{oneCell, pgCells, qgCells, wCells, wrCells, wiCells, flowCells}
 use Rattle.matrix.proofs.Same.{matrix-columns}
+use Rattle.bus_columns.specs.Counts.{ownCells}
+use Rattle.bus_columns.proofs.Counts.{columns-least}
 use Rattle.record_columns.specs.Writers.{costTurn}
 use Rattle.assembly.specs.Parts.{generatorColumns, productColumns, flowColumns, branchColumns}
 use Rattle.cells.proofs.Fills.{listed-length}
@@ -47,7 +50,29 @@ module _ (l : SocWrLayout) (bytes : List ℕ) where
   unfolding branchColumns
   branches-many = simp length-append (omega (arith, products-length))
 
+  flow-some : (r : OhmRow) (e : ℕ) → 2 * 1 ≤ length (flowCells G r e)
+  unfolding flowCells oneCell
+  flow-some r e = simp length-append (omega arith)
+
+  flows-some : (r : OhmRow) → 2 * l .m ≤ length (joined (listed (l .m) (flowCells G r)))
+  flows-some r =
+      omega (
+        arith,
+        ap length (joined-listed (l .m) (flowCells G r)) ∙ each-length (l .m) (flowCells G r),
+        sum-le (l .m) (λ e. 2 * 1) (λ e. length (flowCells G r e)) (λ e k. flow-some r e),
+        sum-mul (l .m) 2 (λ e. 1),
+        sum-ones (l .m),
+      )
+
+  branches-some : 8 * l .m ≤ length (joined (branchColumns G))
+  unfolding branchColumns flowColumns
+  branches-some = simp (joined-append, length-append) (omega (arith, flows-some pf, flows-some pt, flows-some qf, flows-some qt))
+
   module _ (laid : Laid l bytes) where
+    -- the columns from the first of the buses' on go as far as they are ahead
+    pub ahead-covered : sum (l .n) (λ i. length (ownCells G i)) + 12 * l .m ≤ length (each (l .n) (wCells G)) + length (joined (branchColumns G))
+    ahead-covered = omega (arith, columns-least l bytes laid, branches-some)
+
     pub matrix-parts : matrix G ≡ generatorColumns G ++ listed (l .n) (wCells G) ++ branchColumns G
     unfolding generatorColumns branchColumns productColumns flowColumns costTurn
     matrix-parts =

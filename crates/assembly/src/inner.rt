@@ -22,7 +22,7 @@ ghost use Rattle.matrix.specs.Columns.{wCells};
 ghost use Rattle.cells.specs.Columns.{Columns, Whole};
 ghost use Rattle.bus_columns.specs.Counts.{ownCells, fromCells, toCells};
 ghost use Rattle.assembly.specs.Ahead.{Ahead};
-ghost use Rattle.assembly.specs.Parts.{generatorColumns, productColumns, flowColumns, branchColumns, mostA};
+ghost use Rattle.assembly.specs.Parts.{generatorColumns, productColumns, flowColumns, branchColumns, mostA, Roomy};
 ghost use Rattle.numbering.specs.Laid.{netOf, Laid};
 
 // The pg and qg columns.
@@ -43,7 +43,8 @@ fn fill_generators(
     put_qgs(starts, rows, vals, next, l, bytes)
 }
 
-// The w columns. The starts of the wr and wi columns, which are written next, serve meanwhile for the ends of the branches by bus.
+// The w columns. The starts of the wr and wi columns, which are written next, serve meanwhile for the ends of the branches by bus,
+// and the values of the columns behind them for the branches' coefficients.
 fn fill_buses(
     starts: &mut [u32],
     rows: &mut [u32],
@@ -54,12 +55,14 @@ fn fill_buses(
 ) -> usize
     requires { ⌜ Laid l (now bytes) ⌝ }
     requires { ⌜ (at < 900000) × (2 * l .k + l .n + 2 * l .m + 1 ≤ length (now starts)) ⌝ }
-    ensures { λ x. ⌜ Ahead (listed (l .n) (wCells (netOf l (now (bytes .entry))))) (2 * l .k) (2 * l .m) (now (starts .entry)) (cellOut (now (rows .entry)) (now (vals .entry)) at) (now (starts .exit)) (cellOut (now (rows .exit)) (now (vals .exit)) x) ⌝ }
+    requires { ⌜ at + sum (l .n) (λ i. length (ownCells (netOf l (now bytes)) i)) + 12 * l .m ≤ length (now vals) ⌝ }
+    ensures { λ x. ⌜ Ahead (listed (l .n) (wCells (netOf l (now (bytes .entry))))) (2 * l .k) (2 * l .m) (at + sum (l .n) (λ i. length (ownCells (netOf l (now (bytes .entry))) i)) + 12 * l .m) (now (starts .entry)) (cellOut (now (rows .entry)) (now (vals .entry)) at) (now (starts .exit)) (cellOut (now (rows .exit)) (now (vals .exit)) x) ⌝ }
     ensures { λ x. ⌜ x ≤ at + 4 * l .n + 8 * l .m ⌝ }
 {
+    let gathered = at + count_buses(l, bytes) + 8 * l.m;
     let first = 2 * l.k + 1;
     let end = first + l.n + 2 * l.m;
-    put_buses(&mut starts[first..end], rows, vals, at, l, bytes)
+    put_buses(&mut starts[first..end], rows, vals, at, gathered, l, bytes)
 }
 
 // The wr and wi columns.
@@ -177,6 +180,7 @@ pub fn fill_a(
 ) -> usize
     requires { ⌜ Laid l (now bytes) ⌝ }
     requires { ⌜ 2 * l .k + l .n + 2 * l .m + 1 ≤ length (now starts) ⌝ }
+    requires { ⌜ Roomy l (now bytes) (now vals) ⌝ }
     ensures { λ x. ⌜ Whole (matrix (netOf l (now (bytes .entry)))) (now (starts .entry)) (now (rows .entry)) (now (vals .entry)) (now (starts .exit)) (now (rows .exit)) (now (vals .exit)) x ⌝ }
     ensures { λ x. ⌜ x ≤ mostA l ⌝ }
 {

@@ -102,6 +102,10 @@ module _ (G : AcNetwork Float) where
   unfolding coneEnd coneTo
   cone-odd e h = rw (odd e, half-odd e, lt-ltb e (G .m) h)
 
+  pub blocks-length : (xs : List ℕ) → length (blocksOf G xs) ≡ length (ohmsOf G xs pf) + length (ohmsOf G xs qf) + length (ohmsOf G xs pt) + length (ohmsOf G xs qt)
+  unfolding blocksOf
+  blocks-length xs = simp length-append
+
   -- ---- a bus's column
 
   module _ (i : ℕ) (xs : List ℕ) (q : xs ≡ endsOf G i) where
@@ -116,6 +120,9 @@ module _ (G : AcNetwork Float) where
     pub column-is : shuntCells G i ++ blocksOf G xs ++ boundCells G i ++ conesOf G xs ≡ wCells G i
     unfolding blocksOf wCells
     column-is = rw (ohms-are pf, ohms-are qf, ohms-are pt, ohms-are qt, cones-are) (simp append-assoc)
+
+    pub column-length : length (wCells G i) ≡ length (shuntCells G i) + length (blocksOf G xs) + length (boundCells G i) + length (conesOf G xs)
+    column-length = sym (ap length column-is) ∙ simp length-append
 
     pub ends-few : length xs ≤ 2 * G .m
     unfolding endsOf endsAt

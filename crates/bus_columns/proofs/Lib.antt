@@ -1,4 +1,5 @@
 pub mod ColumnEnds
 pub mod Counts
 pub mod Ends
+pub mod Gathered
 pub mod Passed

@@ -1,5 +1,6 @@
 -- `program::sized::put_counted` meets its contract. Assumes nothing.
 use mathlib.Core.Path.{refl}
+use mathlib.Core.Logic.{inr}
 use native.Mathlib.Omega.{arith}
 use denote.Ref.{now}
 use Rattle.assembly.proofs.PartsOfA.{matrix-starts}
@@ -15,7 +16,7 @@ returns-2 : tie.Need-returns-2
 returns-2 c = short-vals refl (omega (arith, matrix-starts (c .before .before .before .before .before .before .before .args .l) (now (c .before .before .before .before .before .before .before .args .bytes)) (c .before .before .before .before .before .before .before .pre .0), c .before .before .before .before .before .before .before .pre .1)) (c .before .before .count-a .ensures) (c .before .if1 .left) (c .if2 .taken)
 
 fill-a-requires : tie.Need-fill-a-requires
-fill-a-requires c κs = (c .before .before .before .before .before .before .before .before .before .before .pre .0, omega (arith, c .before .before .before .before .before .before .before .before .before .before .pre .1))
+fill-a-requires c κs = (c .before .before .before .before .before .before .before .before .before .before .pre .0, (omega (arith, c .before .before .before .before .before .before .before .before .before .before .pre .1), inr (omega (arith, c .before .before .before .before .before .count-a .ensures, c .before .before .before .if2 .left))))
 
 returns-3 : tie.Need-returns-3
 returns-3 c =

@@ -1,5 +1,6 @@
 -- `program::sized::put_sized` meets its contract. Assumes nothing.
 use mathlib.Core.Path.{refl}
+use mathlib.Core.Logic.{inl}
 use native.Mathlib.Omega.{arith}
 use denote.Ref.{now}
 use Rattle.cells.proofs.Ends.{whole-count}
@@ -25,7 +26,7 @@ returns-2 : tie.Need-returns-2
 returns-2 c = c .before .before .before .before .before .before .put-counted2 .ensures
 
 fill-a-requires : tie.Need-fill-a-requires
-fill-a-requires c κs = (c .before .before .before .before .before .before .before .before .before .before .pre .0, omega (arith, c .before .before .before .before .before .before .before .before .before .before .pre .1))
+fill-a-requires c κs = (c .before .before .before .before .before .before .before .before .before .before .pre .0, (omega (arith, c .before .before .before .before .before .before .before .before .before .before .pre .1), inl (omega (arith, c .before .before .before .before .before .most .ensures, c .before .before .before .if2 .left))))
 
 returns-3 : tie.Need-returns-3
 returns-3 c =
