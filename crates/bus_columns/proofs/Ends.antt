@@ -16,7 +16,7 @@ use Rattle.records.specs.AcNetwork.{AcNetwork}
 use Rattle.rows.specs.Rows.{OhmRow, pf, qf, pt, qt, endBus}
 use Rattle.matrix.specs.Columns.{shuntCells, ohmCell, boundCells, coneFrom, coneTo, ohmAt, conesAt, wCells}
 use Rattle.incidence.specs.Incidence.{endsAt, endsOf}
-use Rattle.bus_columns.specs.Ends.{sideOf, ohmEnd, coneEnd, ohmsOf, conesOf, blocksOf}
+use Rattle.bus_columns.specs.Ends.{sideOf, sideEnds, ohmEnd, coneEnd, ohmsOf, conesOf, blocksOf}
 
 -- ---- what each number of a list stands for, joined
 
@@ -60,6 +60,14 @@ module _ (h : ℕ → List Cell) where
       ∙ each-ext _ _ (G .m)
       (λ e l. flat-append (when (eqb (G .from e) i) ((2 * e) ∷ [])) (when (eqb (G .to e) i) ((2 * e + 1) ∷ [])) ∙ rw (flat-when (eqb (G .from e) i) (2 * e), flat-when (eqb (G .to e) i) (2 * e + 1)))
 
+  -- those that pass a test
+  picked : (b : ℕ → Bool) (xs : List ℕ)
+      → each (length (each (length xs) (λ j. when (b (getD xs j 0)) (getD xs j 0 ∷ [])))) (λ j. h (getD (each (length xs) (λ j. when (b (getD xs j 0)) (getD xs j 0 ∷ []))) j 0))
+      ≡ each (length xs) (λ j. when (b (getD xs j 0)) (h (getD xs j 0)))
+  picked b xs =
+      flat-index (each (length xs) (λ j. when (b (getD xs j 0)) (getD xs j 0 ∷ []))) ∙ flat-each (length xs) (λ j. when (b (getD xs j 0)) (getD xs j 0 ∷ []))
+      ∙ each-ext _ _ (length xs) (λ j l. flat-when (b (getD xs j 0)) (getD xs j 0))
+
 -- ---- halves and parities
 
 half-even : (e : ℕ) → 2 * e / 2 ≡ e
@@ -73,6 +81,10 @@ even e = omega arith
 
 odd : (e : ℕ) → (2 * e + 1) % 2 ≡ 1
 odd e = omega arith
+
+when-again : (b : Bool) (cs : List Cell) → when b (when b cs) ≡ when b cs
+when-again true cs = refl
+when-again false cs = refl
 
 one-or-none : (b : Bool) (x : ℕ) → length (when b (x ∷ [])) ≤ 1
 one-or-none true x = omega arith
@@ -101,6 +113,18 @@ module _ (G : AcNetwork Float) where
   cone-odd : (e : ℕ) → e < G .m → coneEnd G (2 * e + 1) ≡ coneTo G e
   unfolding coneEnd coneTo
   cone-odd e h = rw (odd e, half-odd e, lt-ltb e (G .m) h)
+
+  -- a side's ends give the cells that all ends give
+  pub ohms-sided : (r : OhmRow) (xs : List ℕ) → ohmsOf G (sideEnds (sideOf r) xs) r ≡ ohmsOf G xs r
+  unfolding sideEnds ohmEnd
+  ohms-sided r xs =
+      picked (ohmEnd G r) (λ x. eqb (x % 2) (sideOf r)) xs
+      ∙ each-ext _ _ (length xs) (λ j l. when-again (eqb (getD xs j 0 % 2) (sideOf r)) _)
+
+  -- the four blocks by pairs
+  pub blocks-paired : (xs : List ℕ) → (ohmsOf G xs pf ++ ohmsOf G xs qf) ++ (ohmsOf G xs pt ++ ohmsOf G xs qt) ≡ blocksOf G xs
+  unfolding blocksOf
+  blocks-paired xs = simp append-assoc
 
   pub blocks-length : (xs : List ℕ) → length (blocksOf G xs) ≡ length (ohmsOf G xs pf) + length (ohmsOf G xs qf) + length (ohmsOf G xs pt) + length (ohmsOf G xs qt)
   unfolding blocksOf

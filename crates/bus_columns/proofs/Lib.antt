@@ -3,3 +3,4 @@ pub mod Counts
 pub mod Ends
 pub mod Gathered
 pub mod Passed
+pub mod Sides

@@ -1,7 +1,7 @@
 -- What one end of a branch puts into its bus's column. End 2e is branch e's from end, end 2e + 1 its to end.
 use Prim.Native.Nat.{ℕ, _/_, _%_}
 use mathlib.Core.Bool.{Bool, true, false}
-use mathlib.Core.List.{List, _++_}
+use mathlib.Core.List.{List, [], _∷_, _++_}
 use lib.Dec.{eqb, ltb}
 use lib.ListN.{length, getD}
 use lib.Ieee.{Float}
@@ -18,6 +18,10 @@ sideOf pf = 0
 sideOf qf = 0
 sideOf pt = 1
 sideOf qt = 1
+
+-- the ends of one side in a list, in order
+unfoldable pub sideEnds : ℕ → List ℕ → List ℕ
+sideEnds s xs = each (length xs) (λ j. when (eqb (getD xs j 0 % 2) s) (getD xs j 0 ∷ []))
 
 -- the value in the last row of a branch's cone, at its from end and at its to end
 abbrev pub lastValue : Bool → Float

@@ -1,3 +1,5 @@
+-- `assembly::inner::fill_a` meets its contract. Assumes nothing.
+use borrow.Author.Needs.{needs}
 use native.Mathlib.Omega.{arith}
 use mathlib.Core.List.{append-assoc}
 use mathlib.Core.Logic.{⊎-elim}
@@ -10,25 +12,10 @@ use Rattle.bus_columns.proofs.Counts.{own-most}
 use Rattle.assembly.proofs.PartsOfA.{generators-length, branches-many, matrix-parts, matrix-count, ahead-covered}
 use Rattle.assembly.proofs.Ahead.{ahead-then}
 use Rattle.numbering.specs.Laid.{netOf}
-use borrow.Author.Needs.{needs}
+use Rattle.lists.proofs.inner.store_u32.Reads as store-u32-reads
 use Rattle.assembly.proofs.inner.fill_a.Statement.{statement}
 use Rattle.assembly.proofs.inner.fill_a.Tie as tie
-use Rattle.assembly.proofs.inner.fill_a.Reads as reads
-use Rattle.assembly.proofs.inner.fill_a.Lts as lts
-use Rattle.assembly.proofs.inner.fill_branches.Reads as fill-branches-reads
-use Rattle.assembly.proofs.inner.fill_buses.Reads as fill-buses-reads
-use Rattle.assembly.proofs.inner.fill_generators.Reads as fill-generators-reads
-use Rattle.lists.proofs.inner.store_u32.Reads as store-u32-reads
 
--- src/inner.rt:187:5
-store-u32-requires : tie.Need-store-u32-requires
-store-u32-requires c κs = search needs
-
--- src/inner.rt:188:9
-fill-generators-requires : tie.Need-fill-generators-requires
-fill-generators-requires c κs = search needs
-
--- src/inner.rt:189:9
 fill-buses-requires : tie.Need-fill-buses-requires
 fill-buses-requires c κs =
     let a = c .before .before .before .before .before .before .before .before .before .before .before .before .before .before .before .before .before .before .before .before .before .args in
@@ -36,24 +23,10 @@ fill-buses-requires c κs =
     let p = c .before .before .before .before .before .before .before .before .before .before .before .before .before .before .before .before .before .before .before .before .before .pre in
     (p .0, ((omega (arith, c .before .before .before .before .before .before .before .before .before .fill-generators .ensures .1, p .0 .range .k-range, p .0 .range .s-range), omega (arith, p .1 .0, c .before .before .before .before .before .before .before .before .before .before .before .before .before .before .before .store-u32 .kept .0, c .before .before .before .before .before .before .before .before .before .fill-generators .kept .0)), ⊎-elim (λ h. omega (arith, h, own-most (a .l) b (p .0), c .before .before .before .before .before .before .before .before .before .fill-generators .ensures .1, c .before .before .before .before .before .before .before .before .before .fill-generators .kept .1 .1)) (λ h. omega (arith, h, matrix-count (a .l) b (p .0), ahead-covered (a .l) b (p .0), columns-pos (c .before .before .before .before .before .before .before .before .before .fill-generators .ensures .0), c .before .before .before .before .before .before .before .before .before .fill-generators .kept .1 .1)) (p .1 .1)))
 
--- src/inner.rt:190:5
 fill-branches-requires : tie.Need-fill-branches-requires
 fill-branches-requires c κs =
     (c .before .before .before .before .before .before .before .before .before .before .before .before .before .before .before .before .before .before .before .before .before .before .before .before .before .before .before .before .before .before .before .pre .0, omega (arith, c .before .before .before .before .before .before .before .before .before .before .before .before .before .before .before .before .before .before .before .fill-generators .ensures .1, c .before .before .before .before .before .before .before .before .before .fill-buses .ensures .1, c .before .before .before .before .before .before .before .before .before .before .before .before .before .before .before .before .before .before .before .before .before .before .before .before .before .before .before .before .before .before .before .pre .0 .range .n-range, c .before .before .before .before .before .before .before .before .before .before .before .before .before .before .before .before .before .before .before .before .before .before .before .before .before .before .before .before .before .before .before .pre .0 .range .m-range, c .before .before .before .before .before .before .before .before .before .before .before .before .before .before .before .before .before .before .before .before .before .before .before .before .before .before .before .before .before .before .before .pre .0 .range .k-range, c .before .before .before .before .before .before .before .before .before .before .before .before .before .before .before .before .before .before .before .before .before .before .before .before .before .before .before .before .before .before .before .pre .0 .range .s-range))
 
--- src/inner.rt:174:1
-same-length : tie.Need-same-length
-same-length c = search needs
-
--- src/inner.rt:174:1
-same-length-2 : tie.Need-same-length-2
-same-length-2 c = search needs
-
--- src/inner.rt:174:1
-same-length-3 : tie.Need-same-length-3
-same-length-3 c = search needs
-
--- src/inner.rt:174:1
 returns : tie.Need-returns
 returns c =
     let a = c .before .before .before .before .before .before .before .before .before .before .before .before .before .before .before .before .before .before .before .before .before .before .before .before .before .before .before .before .before .before .before .before .before .before .before .before .before .before .args in
@@ -69,14 +42,4 @@ returns c =
     )
 
 pub fill-a-spec : {M : Type 1} → statement M
-fill-a-spec =
-    tie.close
-    (tie.spec
-    store-u32-requires
-    fill-generators-requires
-    fill-buses-requires
-    fill-branches-requires
-    same-length
-    same-length-2
-    same-length-3
-    returns)
+fill-a-spec = tie.close (tie.spec (λ c κs. search needs) (λ c κs. search needs) fill-buses-requires fill-branches-requires (λ c. search needs) (λ c. search needs) (λ c. search needs) returns)

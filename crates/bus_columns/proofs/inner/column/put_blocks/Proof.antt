@@ -1,77 +1,82 @@
+-- `bus_columns::inner::column::put_blocks` meets its contract. Assumes nothing.
+use borrow.Author.Needs.{needs}
+use Prim.Native.Nat.{_-_}
+use mathlib.Core.Path.{_≡_}
 use native.Mathlib.Omega.{arith}
+use lib.ListN.{length-append}
 use denote.Ref.{now}
 use Rattle.lists.proofs.Compressed.{then, pos}
 use Rattle.numbering.specs.Laid.{netOf}
-use Rattle.bus_columns.specs.Ends.{blocksOf}
-use Rattle.bus_columns.proofs.Ends.{blocks-length}
+use Rattle.rows.specs.Rows.{pf, qf, pt, qt}
+use Rattle.bus_columns.specs.Ends.{ohmsOf}
+use Rattle.bus_columns.proofs.Ends.{ohms-sided, blocks-length, blocks-paired}
+use Rattle.bus_columns.proofs.Sides.{sides-length}
 use Rattle.bus_columns.proofs.Gathered.{still}
-use borrow.Author.Needs.{needs}
 use Rattle.bus_columns.proofs.inner.column.put_blocks.Statement.{statement}
 use Rattle.bus_columns.proofs.inner.column.put_blocks.Tie as tie
-use Rattle.bus_columns.proofs.inner.column.put_blocks.Reads as reads
-use Rattle.bus_columns.proofs.inner.column.put_blocks.Lts as lts
-use Rattle.bus_columns.proofs.inner.column.put_ohms.Reads as put-ohms-reads
 
--- src/inner/column.rt:162:9
-put-ohms-requires : tie.Need-put-ohms-requires
-put-ohms-requires c κs =
-    let a = c .before .before .before .before .before .before .args in
+split-requires : tie.Need-split-requires
+split-requires c κs = omega (arith, c .before .if1 .taken)
+
+part-put-pair-end : tie.Need-part-put-pair-end
+part-put-pair-end c = omega (arith, c .before .before .before .before .before .before .before .if1 .taken, c .before .before .before .before .before .split .ensures .1 .1, c .before .before .before .before .before .split .kept)
+
+put-pair-requires : tie.Need-put-pair-requires
+put-pair-requires c κs =
+    let a = c .before .before .before .before .before .before .before .before .before .before .before .before .before .before .args in
+    let p = c .before .before .before .before .before .before .before .before .before .before .before .before .before .before .pre in
+    let xs = now (a .ends) in
     let G = netOf (a .l) (now (a .bytes)) in
-    let b = blocks-length G (now (a .ends)) in
-    (c .before .before .before .before .before .before .pre .0, ((c .before .before .before .before .before .before .pre .1 .0 .0, omega (arith, c .before .before .before .before .before .before .pre .1 .0)), (c .before .before .before .before .before .before .pre .1 .1 .0, omega (arith, b, c .before .before .before .before .before .before .pre .1 .1 .1))))
+    let s = c .before .before .before .before .before .before .split .ensures in
+    let z : c .before .before .before .before .before .before .split .result - 0 ≡ c .before .before .before .before .before .before .split .result = omega arith in
+    (p .0, ((rw (z, s .0) (omega (arith, sides-length xs, p .1 .0 .0)), omega (arith, p .1 .0 .1)), (p .1 .1 .0, rw (z, s .0, ohms-sided G pf xs, ohms-sided G qf xs) (omega (arith, blocks-length G xs, p .1 .1 .1)))))
 
--- src/inner/column.rt:163:9
-put-ohms-requires-2 : tie.Need-put-ohms-requires-2
-put-ohms-requires-2 c κs =
-    let a = c .before .before .before .before .before .before .before .before .before .before .before .before .before .args in
+part-put-pair-end-2 : tie.Need-part-put-pair-end-2
+part-put-pair-end-2 c = omega (arith, c .before .before .before .before .before .before .before .before .before .before .before .before .before .before .before .before .if1 .taken, c .before .before .before .before .before .before .before .before .before .before .before .before .before .before .split .ensures .1 .1, c .before .before .before .before .before .before .before .before .before .before .before .before .before .before .split .kept)
+
+put-pair-requires-2 : tie.Need-put-pair-requires-2
+put-pair-requires-2 c κs =
+    let a = c .before .before .before .before .before .before .before .before .before .before .before .before .before .before .before .before .before .before .before .before .before .before .before .args in
+    let p = c .before .before .before .before .before .before .before .before .before .before .before .before .before .before .before .before .before .before .before .before .before .before .before .pre in
+    let xs = now (a .ends) in
     let G = netOf (a .l) (now (a .bytes)) in
-    let b = blocks-length G (now (a .ends)) in
-    let w1 = c .before .before .before .before .before .before .put-ohms .ensures in
-    (c .before .before .before .before .before .before .before .before .before .before .before .before .before .pre .0, ((c .before .before .before .before .before .before .before .before .before .before .before .before .before .pre .1 .0 .0, omega (arith, w1 .1, c .before .before .before .before .before .before .before .before .before .before .before .before .before .pre .1 .0, c .before .before .before .before .before .before .before .before .before .before .before .before .before .pre .0 .accepted .few-branches)), (still G (w1 .0) (omega (arith, b, pos (w1 .0), c .before .before .before .before .before .before .before .before .before .before .before .before .before .pre .1 .1 .1)) (c .before .before .before .before .before .before .before .before .before .before .before .before .before .pre .1 .1 .0), omega (arith, b, pos (w1 .0), c .before .before .before .before .before .before .before .before .before .before .before .before .before .pre .1 .1 .1))))
+    let s = c .before .before .before .before .before .before .before .before .before .before .before .before .before .before .before .split .ensures in
+    let z : c .before .before .before .before .before .before .before .before .before .before .before .before .before .before .before .split .result - 0 ≡ c .before .before .before .before .before .before .before .before .before .before .before .before .before .before .before .split .result = omega arith in
+    let w = rw (z, s .0, ohms-sided G pf xs, ohms-sided G qf xs) at (c .before .before .before .before .before .before .before .before .put-pair .ensures .0) in
+    let u = rw (z, s .0) at (c .before .before .before .before .before .before .before .before .put-pair .ensures .1) in
+    let n = length-append (ohmsOf G xs pf) (ohmsOf G xs qf) in
+    (p .0, ((rw (s .1 .0) (omega (arith, sides-length xs, p .1 .0 .0)), omega (arith, u, sides-length xs, p .1 .0, p .0 .accepted .few-branches)), (still G w (omega (arith, pos w, n, blocks-length G xs, p .1 .1 .1)) (p .1 .1 .0), rw (s .1 .0, ohms-sided G pt xs, ohms-sided G qt xs) (omega (arith, pos w, n, blocks-length G xs, p .1 .1 .1)))))
 
--- src/inner/column.rt:164:9
-put-ohms-requires-3 : tie.Need-put-ohms-requires-3
-put-ohms-requires-3 c κs =
-    let a = c .before .before .before .before .before .before .before .before .before .before .before .before .before .before .before .before .before .before .before .before .args in
-    let G = netOf (a .l) (now (a .bytes)) in
-    let b = blocks-length G (now (a .ends)) in
-    let w1 = c .before .before .before .before .before .before .before .before .before .before .before .before .before .put-ohms .ensures in
-    let w2 = c .before .before .before .before .before .before .put-ohms2 .ensures in
-    (c .before .before .before .before .before .before .before .before .before .before .before .before .before .before .before .before .before .before .before .before .pre .0, ((c .before .before .before .before .before .before .before .before .before .before .before .before .before .before .before .before .before .before .before .before .pre .1 .0 .0, omega (arith, w1 .1, w2 .1, c .before .before .before .before .before .before .before .before .before .before .before .before .before .before .before .before .before .before .before .before .pre .1 .0, c .before .before .before .before .before .before .before .before .before .before .before .before .before .before .before .before .before .before .before .before .pre .0 .accepted .few-branches)), (still G (then (w1 .0) (w2 .0)) (omega (arith, b, pos (w1 .0), pos (w2 .0), c .before .before .before .before .before .before .before .before .before .before .before .before .before .before .before .before .before .before .before .before .pre .1 .1 .1)) (c .before .before .before .before .before .before .before .before .before .before .before .before .before .before .before .before .before .before .before .before .pre .1 .1 .0), omega (arith, b, pos (w1 .0), pos (w2 .0), c .before .before .before .before .before .before .before .before .before .before .before .before .before .before .before .before .before .before .before .before .pre .1 .1 .1))))
-
--- src/inner/column.rt:165:5
-put-ohms-requires-4 : tie.Need-put-ohms-requires-4
-put-ohms-requires-4 c κs =
-    let a = c .before .before .before .before .before .before .before .before .before .before .before .before .before .before .before .before .before .before .before .before .before .before .before .before .before .before .before .args in
-    let G = netOf (a .l) (now (a .bytes)) in
-    let b = blocks-length G (now (a .ends)) in
-    let w1 = c .before .before .before .before .before .before .before .before .before .before .before .before .before .before .before .before .before .before .before .before .put-ohms .ensures in
-    let w2 = c .before .before .before .before .before .before .before .before .before .before .before .before .before .put-ohms2 .ensures in
-    let w3 = c .before .before .before .before .before .before .put-ohms3 .ensures in
-    (c .before .before .before .before .before .before .before .before .before .before .before .before .before .before .before .before .before .before .before .before .before .before .before .before .before .before .before .pre .0, ((c .before .before .before .before .before .before .before .before .before .before .before .before .before .before .before .before .before .before .before .before .before .before .before .before .before .before .before .pre .1 .0 .0, omega (arith, w1 .1, w2 .1, w3 .1, c .before .before .before .before .before .before .before .before .before .before .before .before .before .before .before .before .before .before .before .before .before .before .before .before .before .before .before .pre .1 .0, c .before .before .before .before .before .before .before .before .before .before .before .before .before .before .before .before .before .before .before .before .before .before .before .before .before .before .before .pre .0 .accepted .few-branches)), (still G (then (then (w1 .0) (w2 .0)) (w3 .0)) (omega (arith, b, pos (w1 .0), pos (w2 .0), pos (w3 .0), c .before .before .before .before .before .before .before .before .before .before .before .before .before .before .before .before .before .before .before .before .before .before .before .before .before .before .before .pre .1 .1 .1)) (c .before .before .before .before .before .before .before .before .before .before .before .before .before .before .before .before .before .before .before .before .before .before .before .before .before .before .before .pre .1 .1 .0), omega (arith, b, pos (w1 .0), pos (w2 .0), pos (w3 .0), c .before .before .before .before .before .before .before .before .before .before .before .before .before .before .before .before .before .before .before .before .before .before .before .before .before .before .before .pre .1 .1 .1))))
-
--- src/inner/column.rt:146:1
-same-length : tie.Need-same-length
-same-length c = search needs
-
--- src/inner/column.rt:146:1
-same-length-2 : tie.Need-same-length-2
-same-length-2 c = search needs
-
--- src/inner/column.rt:146:1
 returns : tie.Need-returns
-unfolding blocksOf
 returns c =
-    (then (then (then (c .before .before .before .before .before .before .before .before .before .before .before .before .before .before .before .before .before .before .before .before .before .before .before .before .before .put-ohms .ensures .0) (c .before .before .before .before .before .before .before .before .before .before .before .before .before .before .before .before .before .before .put-ohms2 .ensures .0)) (c .before .before .before .before .before .before .before .before .before .before .before .put-ohms3 .ensures .0)) (c .before .before .before .before .put-ohms4 .ensures .0), omega (arith, c .before .before .before .before .before .before .before .before .before .before .before .before .before .before .before .before .before .before .before .before .before .before .before .before .before .put-ohms .ensures .1, c .before .before .before .before .before .before .before .before .before .before .before .before .before .before .before .before .before .before .put-ohms2 .ensures .1, c .before .before .before .before .before .before .before .before .before .before .before .put-ohms3 .ensures .1, c .before .before .before .before .put-ohms4 .ensures .1))
+    let a = c .before .before .before .before .before .before .before .before .before .before .before .before .before .before .before .before .before .before .before .before .before .before .before .before .before .before .before .before .args in
+    let xs = now (a .ends) in
+    let G = netOf (a .l) (now (a .bytes)) in
+    let s = c .before .before .before .before .before .before .before .before .before .before .before .before .before .before .before .before .before .before .before .before .split .ensures in
+    let z : c .before .before .before .before .before .before .before .before .before .before .before .before .before .before .before .before .before .before .before .before .split .result - 0 ≡ c .before .before .before .before .before .before .before .before .before .before .before .before .before .before .before .before .before .before .before .before .split .result = omega arith in
+    let w = rw (z, s .0, ohms-sided G pf xs, ohms-sided G qf xs) at (c .before .before .before .before .before .before .before .before .before .before .before .before .before .put-pair .ensures .0) in
+    let v = rw (s .1 .0, ohms-sided G pt xs, ohms-sided G qt xs) at (c .before .before .before .before .put-pair2 .ensures .0) in
+    (rw (blocks-paired G xs) at (then w v), omega (arith, rw (z, s .0) at (c .before .before .before .before .before .before .before .before .before .before .before .before .before .put-pair .ensures .1), rw (s .1 .0) at (c .before .before .before .before .put-pair2 .ensures .1), sides-length xs))
+
+put-pair-requires-3 : tie.Need-put-pair-requires-3
+put-pair-requires-3 c κs =
+    let a = c .before .before .before .before .before .before .before .before .args in
+    let b = blocks-length (netOf (a .l) (now (a .bytes))) (now (a .ends)) in
+    (c .before .before .before .before .before .before .before .before .pre .0, ((c .before .before .before .before .before .before .before .before .pre .1 .0 .0, omega (arith, c .before .before .before .before .before .before .before .before .pre .1 .0)), (c .before .before .before .before .before .before .before .before .pre .1 .1 .0, omega (arith, b, c .before .before .before .before .before .before .before .before .pre .1 .1 .1))))
+
+put-pair-requires-4 : tie.Need-put-pair-requires-4
+put-pair-requires-4 c κs =
+    let a = c .before .before .before .before .before .before .before .before .before .before .before .before .before .before .before .args in
+    let G = netOf (a .l) (now (a .bytes)) in
+    let b = blocks-length G (now (a .ends)) in
+    let w = c .before .before .before .before .before .before .put-pair3 .ensures in
+    let n = length-append (ohmsOf G (now (a .ends)) pf) (ohmsOf G (now (a .ends)) qf) in
+    (c .before .before .before .before .before .before .before .before .before .before .before .before .before .before .before .pre .0, ((c .before .before .before .before .before .before .before .before .before .before .before .before .before .before .before .pre .1 .0 .0, omega (arith, w .1, c .before .before .before .before .before .before .before .before .before .before .before .before .before .before .before .pre .1 .0, c .before .before .before .before .before .before .before .before .before .before .before .before .before .before .before .pre .0 .accepted .few-branches)), (still G (w .0) (omega (arith, b, n, pos (w .0), c .before .before .before .before .before .before .before .before .before .before .before .before .before .before .before .pre .1 .1 .1)) (c .before .before .before .before .before .before .before .before .before .before .before .before .before .before .before .pre .1 .1 .0), omega (arith, b, n, pos (w .0), c .before .before .before .before .before .before .before .before .before .before .before .before .before .before .before .pre .1 .1 .1))))
+
+returns-2 : tie.Need-returns-2
+returns-2 c =
+    let a = c .before .before .before .before .before .before .before .before .before .before .before .before .before .before .before .before .before .before .before .before .args in
+    (rw (blocks-paired (netOf (a .l) (now (a .bytes))) (now (a .ends))) at (then (c .before .before .before .before .before .before .before .before .before .before .before .put-pair3 .ensures .0) (c .before .before .before .before .put-pair4 .ensures .0)), omega (arith, c .before .before .before .before .before .before .before .before .before .before .before .put-pair3 .ensures .1, c .before .before .before .before .put-pair4 .ensures .1))
 
 pub put-blocks-spec : {M : Type 1} → statement M
-put-blocks-spec =
-    tie.close
-    (tie.spec
-    put-ohms-requires
-    put-ohms-requires-2
-    put-ohms-requires-3
-    put-ohms-requires-4
-    same-length
-    same-length-2
-    returns)
+put-blocks-spec = tie.close (tie.spec split-requires (λ c. search needs) (λ c. search needs) part-put-pair-end put-pair-requires (λ c. search needs) (λ c. search needs) (λ c. search needs) part-put-pair-end-2 put-pair-requires-2 (λ c. search needs) (λ c. search needs) (λ c. search needs) returns put-pair-requires-3 put-pair-requires-4 (λ c. search needs) (λ c. search needs) returns-2)

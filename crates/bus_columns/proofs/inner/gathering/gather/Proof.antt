@@ -1,5 +1,6 @@
+-- `bus_columns::inner::gathering::gather` meets its contract. Assumes nothing.
 use borrow.Author.Needs.{needs}
-use Prim.Native.Nat.{_≤_, _*_, _-_}
+use Prim.Native.Nat.{_≤_, _-_}
 use native.Mathlib.Omega.{arith}
 use mathlib.Core.Path.{_≡_}
 use denote.Ref.{now}
@@ -11,9 +12,6 @@ use Rattle.bus_columns.specs.Gathered.{fourOf}
 use Rattle.bus_columns.proofs.Gathered.{fours-length}
 use Rattle.bus_columns.proofs.inner.gathering.gather.Statement.{statement}
 use Rattle.bus_columns.proofs.inner.gathering.gather.Tie as tie
-use Rattle.bus_columns.proofs.inner.gathering.gather.Reads as reads
-use Rattle.bus_columns.proofs.inner.gathering.gather.Lts as lts
-use Rattle.bus_columns.proofs.inner.gathering.put_four.Reads as put-four-reads
 
 abbrev Inv-loop : tie.InvT-loop
 Inv-loop vals₀ at l bytes m e₀ vals e = (e ≤ m) × (m ≡ l .m) × Filled (each e (fourOf (netOf l bytes))) vals₀ at vals
@@ -21,57 +19,23 @@ Inv-loop vals₀ at l bytes m e₀ vals e = (e ≤ m) × (m ≡ l .m) × Filled 
 abbrev μ-loop : tie.MeasureT-loop
 μ-loop vals₀ at l bytes m e₀ vals e = m - e
 
--- src/inner/gathering.rt:37:5
 loop-holds : tie.Need-loop-holds Inv-loop μ-loop
 loop-holds c = (omega arith, omega arith, filled-nothing _)
 
--- src/inner/gathering.rt:38:29
-mul-put-four : tie.Need-mul-put-four Inv-loop μ-loop
-mul-put-four c = search needs
-
--- src/inner/gathering.rt:38:24
-add-put-four : tie.Need-add-put-four Inv-loop μ-loop
-add-put-four c = search needs
-
--- src/inner/gathering.rt:38:9
 put-four-requires : tie.Need-put-four-requires Inv-loop μ-loop
 put-four-requires c κs =
     (c .before .before .before .before .before .pre .0, (omega (arith, c .before .before .loop .inv .1), omega (arith, c .before .before .loop .inv .1, kept-length (c .before .before .loop .inv .2), c .before .before .before .before .before .pre .1)))
 
--- src/inner/gathering.rt:39:9
-add-e : tie.Need-add-e Inv-loop μ-loop
-add-e c = search needs
-
--- src/inner/gathering.rt:37:5
-loop-less : tie.Need-loop-less Inv-loop μ-loop
-loop-less c = search needs
-
--- src/inner/gathering.rt:37:5
 loop-again : tie.Need-loop-again Inv-loop μ-loop
 loop-again c =
     let G = netOf (c .before .before .before .before .before .before .before .before .args .l) (now (c .before .before .before .before .before .before .before .before .args .bytes)) in
     (omega arith, c .before .before .before .before .before .loop .inv .1, filled-turn _ (c .before .before .before .before .before .loop .inv .2) (omega (arith, fours-length G (c .before .before .before .before .before .loop .e))) (c .before .before .put-four .ensures))
 
--- src/inner/gathering.rt:30:1
 same-length : tie.Need-same-length Inv-loop μ-loop
 same-length c = kept-length (c .before .loop .inv .2)
 
--- src/inner/gathering.rt:30:1
 returns : tie.Need-returns Inv-loop μ-loop
 returns c = filled-whole _ (omega (arith, c .before .loop .inv .1)) (c .before .loop .inv .2)
 
 pub gather-spec : {M : Type 1} → statement M
-gather-spec =
-    tie.close
-    (tie.spec
-    Inv-loop
-    μ-loop
-    loop-holds
-    mul-put-four
-    add-put-four
-    put-four-requires
-    add-e
-    loop-less
-    loop-again
-    same-length
-    returns)
+gather-spec = tie.close (tie.spec Inv-loop μ-loop loop-holds (λ c. search needs) (λ c. search needs) put-four-requires (λ c. search needs) (λ c. search needs) loop-again same-length returns)
