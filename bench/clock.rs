@@ -35,15 +35,31 @@ pub fn one<T>(mut call: impl FnMut() -> T) -> f64 {
     least((0..ROUNDS).map(|_| nanoseconds(calls, &mut call) as f64 / calls as f64).collect())
 }
 
-/// Nanoseconds of two calls that take turns, so that each finds the caches as the other left them.
-fn two<T, U>(rounds: usize, mut first: impl FnMut() -> T, mut second: impl FnMut() -> U) -> (f64, f64) {
+/// What a turn begins with.
+#[derive(Clone, Copy, PartialEq)]
+enum Turn {
+    /// A timed call, which finds the caches as the other left them.
+    Cold,
+    /// A call that is not timed, so that the timed ones find the caches as one of their own left them.
+    Warm,
+}
+
+/// Nanoseconds of two calls that take turns.
+fn two<T, U>(rounds: usize, turn: Turn, mut first: impl FnMut() -> T, mut second: impl FnMut() -> U) -> (f64, f64) {
     let (a, b) = (calls(&mut first), calls(&mut second));
     let mut times = (Vec::new(), Vec::new());
     for _ in 0..rounds {
-        times.0.push(nanoseconds(a, &mut first) as f64 / a as f64);
-        times.1.push(nanoseconds(b, &mut second) as f64 / b as f64);
+        times.0.push(timed(turn, a, &mut first));
+        times.1.push(timed(turn, b, &mut second));
     }
     (least(times.0), least(times.1))
+}
+
+fn timed<T>(turn: Turn, calls: u128, call: &mut impl FnMut() -> T) -> f64 {
+    if turn == Turn::Warm {
+        black_box(call());
+    }
+    nanoseconds(calls, call) as f64 / calls as f64
 }
 
 /// Three or four digits with their unit.
@@ -61,14 +77,27 @@ pub fn head(title: &str) {
 
 /// A line: what was timed, ours, the Rust's, and ours divided by the Rust's.
 pub fn line<T, U>(what: &str, ours: impl FnMut() -> T, rust: impl FnMut() -> U) {
-    let (a, b) = two(ROUNDS, ours, rust);
+    let (a, b) = two(ROUNDS, Turn::Warm, ours, rust);
     println!("  {what:<46}{:>12}{:>12}{:>8.2}", shown(a), shown(b), a / b);
 }
 
-/// How much longer a call takes at 4,096 buses than at 1,024: the two taking turns, and each by itself.
-pub fn growth<T, U>(what: &str, mut small: impl FnMut() -> T, mut large: impl FnMut() -> U) {
-    let (a, b) = two(4 * ROUNDS, &mut small, &mut large);
-    let (c, d) = (one(small), one(large));
-    let [turns, alone] = [(a, b), (c, d)].map(|(a, b)| format!("{} and {}, {:.2} times", shown(a), shown(b), b / a));
-    println!("  {what:<24} in turns {turns}; by itself {alone}");
+pub fn growth_head(title: &str) {
+    println!("\n{title:<26}{:<20}{:>12}{:>12}{:>8}", "", "1,024", "4,096", "times");
+}
+
+/// How much longer a call takes at 4,096 buses than at 1,024: the two taking turns, each by itself,
+/// and each right after the Rust's call of the same size.
+pub fn growth<T, U, V, W>(
+    what: &str,
+    mut small: impl FnMut() -> T,
+    mut large: impl FnMut() -> U,
+    rust_small: impl FnMut() -> V,
+    rust_large: impl FnMut() -> W,
+) {
+    let turns = two(4 * ROUNDS, Turn::Cold, &mut small, &mut large);
+    let alone = (one(&mut small), one(&mut large));
+    let after = (two(ROUNDS, Turn::Cold, small, rust_small).0, two(ROUNDS, Turn::Cold, large, rust_large).0);
+    for (measure, (a, b)) in [("in turns", turns), ("by itself", alone), ("after the Rust's", after)] {
+        println!("  {what:<24}{measure:<20}{:>12}{:>12}{:>8.2}", shown(a), shown(b), b / a);
+    }
 }

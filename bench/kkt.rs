@@ -1,6 +1,6 @@
 //! The KKT entries beside `ConicKkt::new`, on networks of several sizes.
 
-use crate::clock::{growth, head, line, one, shown};
+use crate::clock::{growth, growth_head, head, line, one, shown};
 use crate::grid::{Grid, BUSES};
 use std::hint::black_box;
 use tellegen::formulation::SocWr;
@@ -43,10 +43,14 @@ impl Case {
         Case { grid, need, bound: bound as usize }
     }
 
+    /// The Rust's list; answers the matrix's size.
+    fn rust(&self) -> usize {
+        ConicKkt::new(black_box(&self.grid.rust), black_box(&self.grid.solution)).map_or(0, |kkt| kkt.dim())
+    }
+
     fn line(&self, what: &str, length: usize) {
         let mut room = Room::new(length);
-        let rust = || ConicKkt::new(black_box(&self.grid.rust), black_box(&self.grid.solution)).map(|kkt| kkt.dim());
-        line(what, || room.entries(self), rust);
+        line(what, || room.entries(self), || self.rust());
     }
 
     /// Into slices that are as long as the list may be, and into exact ones.
@@ -66,12 +70,12 @@ pub fn print() {
     for case in &cases {
         case.lines();
     }
-    println!("\n1,024 and 4,096 buses, and how many times as long:");
+    growth_head("KKT entries");
     let [_, _, small, large] = &cases;
     for (what, length) in
         [("into demand 3's bound", [small.bound, large.bound]), ("into exactly enough", [small.need, large.need])]
     {
         let [mut a, mut b] = length.map(Room::new);
-        growth(what, || a.entries(small), || b.entries(large));
+        growth(what, || a.entries(small), || b.entries(large), || small.rust(), || large.rust());
     }
 }

@@ -1,6 +1,6 @@
 //! Program and reading beside the Rust's assembly of the same network, which is already in memory as `AcNetwork`.
 
-use crate::clock::{growth, head, line};
+use crate::clock::{growth, growth_head, head, line};
 use crate::network::{Branch, Generator, Network, Shape};
 use crate::random::Random;
 use crate::records::read_once;
@@ -161,13 +161,20 @@ fn one_size(title: &str, case: &Case) {
 
 /// The growth of the program.
 fn grow(title: &str, small: &Case, large: &Case) {
-    println!("\n{title}: 1,024 and 4,096 buses, and how many times as long:");
+    growth_head(title);
     let mut rooms = [small.generous(), large.generous()];
     let [a, b] = &mut rooms;
-    growth("A", || a.a(small.net()), || b.a(large.net()));
-    growth("P, q, A, b", || a.all(small.net()), || b.all(large.net()));
-    growth("the Rust's", || small.whole(), || large.whole());
-    growth("the records read once", || read_once(small.net().records), || read_once(large.net().records));
+    let rust = (|| small.whole(), || large.whole());
+    growth("A", || a.a(small.net()), || b.a(large.net()), rust.0, rust.1);
+    growth("P, q, A, b", || a.all(small.net()), || b.all(large.net()), rust.0, rust.1);
+    growth("the Rust's", rust.0, rust.1, rust.0, rust.1);
+    growth(
+        "the records read once",
+        || read_once(small.net().records),
+        || read_once(large.net().records),
+        rust.0,
+        rust.1,
+    );
 }
 
 pub fn print() {
