@@ -18,7 +18,8 @@ fn usual(buses: u32) -> Shape {
     Shape { buses, branches: branches.collect(), generators: generators.collect() }
 }
 
-/// The bytes read once, as 64-bit words.
+/// The bytes read once, as 64-bit words. Not inlined, so that every caller times the same code.
+#[inline(never)]
 pub fn read_once(bytes: &[u8]) -> u64 {
     let (words, _) = bytes.as_chunks::<8>();
     words.iter().fold(0, |sum, w| sum.wrapping_add(u64::from_le_bytes(*w)))

@@ -25,21 +25,15 @@ module _ {A : Type 0} where
   set-before (x ∷ xs) l at p v h =
       set-before xs (set l at x) (suc at) p v (omega arith) ∙ ap (λ (r : List A). sets r (suc at) xs) (set-comm l at p x v (λ e. omega (arith, e)))
 
-  pub sets-over : (xs ys l : List A) (at : ℕ) → length xs ≤ length ys → sets (sets l at xs) at ys ≡ sets l at ys
-  sets-over [] ys l at h = refl
-  sets-over (x ∷ xs) [] l at h = absurd (omega arith)
-  sets-over (x ∷ xs) (y ∷ ys) l at h =
-      ap (λ (r : List A). sets r (suc at) ys)
-      (set-before xs (set l at x) (suc at) at y (omega arith) ∙ ap (λ (r : List A). sets r (suc at) xs) (set-set l at x y))
-      ∙ sets-over xs ys (set l at y) (suc at) (omega arith)
-
-  -- the later ones may begin before the earlier
   sets-cover : (xs ys l : List A) (x at : ℕ) → at ≤ x → x + length xs ≤ at + length ys → sets (sets l x xs) at ys ≡ sets l at ys
   sets-cover [] ys l x at h k = refl
   sets-cover (z ∷ xs) [] l x at h k = absurd (omega arith)
   sets-cover (z ∷ xs) (y ∷ ys) l x at h k =
       ⊎-elim
-      (λ e. rw e (sets-over (z ∷ xs) (y ∷ ys) l x (omega arith)))
+      (λ e.
+      let p : set (sets l x (z ∷ xs)) x y ≡ sets (set l x y) (suc x) xs =
+      set-before xs (set l x z) (suc x) x y (omega arith) ∙ ap (λ (r : List A). sets r (suc x) xs) (set-set l x z y) in
+      rw e (ap (λ (r : List A). sets r (suc x) ys) p ∙ sets-cover xs ys (set l x y) (suc x) (suc x) (omega arith) (omega arith)))
       (λ d.
       ap (λ (r : List A). sets r (suc at) ys) (set-before (z ∷ xs) l x at y (omega arith))
       ∙ sets-cover (z ∷ xs) ys (set l at y) x (suc at) (omega arith) (omega arith))
@@ -92,5 +86,5 @@ part-ahead {cs} {c} {n} {used} es xs {ss₀} {at = at} {x = x} h e v b f q m =
     record {
       next = pos v;
       cells = λ ds o″ g w. wrote-over xs b (omega (arith, pos v, length-append (joined cs) ds, g, f)) (then v w);
-      ends = λ zs u. rw (e, whole, parts) (sets-over (drop n es) zs (sets ss₀ (c + 1) (endsFrom at cs)) (c + 1 + n) (omega (arith, length-drop n es)));
+      ends = λ zs u. rw (e, whole, parts) (sets-cover (drop n es) zs (sets ss₀ (c + 1) (endsFrom at cs)) (c + 1 + n) (c + 1 + n) (omega arith) (omega (arith, length-drop n es)));
     }

@@ -9,7 +9,7 @@ use Rattle.lists.specs.UpTo.{when, bit}
 use Rattle.rows.specs.Rows.{zero64}
 use Rattle.matrix.specs.Columns.{oneCell, nonzeroCell}
 
-when-length : {A : Type 0} (b : Bool) (x : A) → length (when b (x ∷ [])) ≡ bit b
+pub when-length : {A : Type 0} (b : Bool) (x : A) → length (when b (x ∷ [])) ≡ bit b
 when-length true x = refl
 when-length false x = refl
 
