@@ -8,7 +8,7 @@ use lib.Seq.{sets, sets-eq, length-sets, getD-set-other, getD-take, getD-drop, g
 use lib.Ieee.{Float, nan}
 use Rattle.lists.specs.UpTo.{upTo, each}
 use Rattle.lists.specs.Entries.{Cell, cellVal}
-use Rattle.lists.specs.Compressed.{CellOut, cellOut, WroteCells}
+use Rattle.lists.specs.Compressed.{cellOut, WroteCells}
 use Rattle.lists.proofs.Each.{part-each}
 use Rattle.lists.proofs.Compressed.{valsOf, vals-sets, len-vals, pos}
 use Rattle.records.specs.AcNetwork.{AcNetwork}
