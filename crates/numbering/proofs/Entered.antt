@@ -17,15 +17,17 @@ use Rattle.refusals.specs.declared.Checked.the-variants.{Accepted, Refused}
 use Rattle.refusals.specs.declared.Refusal.the-variants.{PastEnd}
 use Rattle.refusals.proofs.Laws.{passed}
 use Rattle.numbering.specs.Blocks.{Block, alike, size, records, start, blockAt, before, numberOf, key}
-use Rattle.numbering.specs.Layout.{layoutCause, layoutColumns, layoutRows, columnSizes, rowSizes, startIn, InRange}
-use Rattle.numbering.specs.Lookups.{afterCheck, inLayout, layoutAnswer}
+use Rattle.numbering.specs.Numbering.{columnTable, rowTable, jabrRows, thermalRows}
+use Rattle.numbering.specs.Layout.{layoutCause, layoutColumns, layoutRows, layoutRow, sizesOf, startIn, InRange}
+use Rattle.numbering.specs.Lookups.{afterCheck, inLayout, rowIn, layoutAnswer}
 use Rattle.numbering.specs.declared.Lookup.{Lookup}
 use Rattle.numbering.specs.declared.Lookup.the-variants.{Absent}
 use Rattle.numbering.specs.declared.Lookup.the-variants as Lookup
 use Rattle.numbering.specs.declared.SocWrLayout.{SocWrLayout}
+use Rattle.numbering.specs.declared.RowName.the-variants.{Jabr, Thermal}
 use Rattle.numbering.specs.declared.LayoutAnswer.{LayoutAnswer}
 use Rattle.numbering.specs.declared.LayoutAnswer.the-variants as LayoutAnswer
-use Rattle.numbering.proofs.Points.{before-next}
+use Rattle.numbering.proofs.Points.{before-zero, before-next}
 
 -- ---- a check c that is d: refused, whatever else would be answered; or passed
 refused-alike : (c : Checked) (a b : Lookup) → isRefused c ≡ true → afterCheck c a ≡ afterCheck c b
@@ -56,20 +58,7 @@ pub layout-given : {d : Checked} (x y : SocWrLayout) → d ≡ Accepted → x �
 unfolding layoutAnswer
 layout-given x y e q = rw (e, q)
 
--- ---- the first c blocks have these lengths
-abbrev pub Sizes : List Block → List ℕ → ℕ → Type 0
-Sizes bs ws zero = Unit
-Sizes [] ws (suc c) = ⊥
-Sizes (B ∷ bs) [] (suc c) = ⊥
-Sizes (B ∷ bs) (w ∷ ws) (suc c) = (size B ≡ w) × Sizes bs ws c
-
-pub size-at : (bs : List Block) (ws : List ℕ) (c : ℕ) → Sizes bs ws c → (b : ℕ) → b < c → size (blockAt bs b) ≡ getD ws b 0
-size-at bs ws zero h b l = absurd (omega arith)
-size-at [] ws (suc c) h b l = absurd h
-size-at (B ∷ bs) [] (suc c) h b l = absurd h
-size-at (B ∷ bs) (w ∷ ws) (suc c) h zero l = h .0
-size-at (B ∷ bs) (w ∷ ws) (suc c) h (suc b) l = size-at bs ws c (h .1) b (omega arith)
-
+-- ---- where a block starts, from the blocks' lengths
 pub start-more : (ws : List ℕ) (b : ℕ) → startIn ws (b + 1) ≡ startIn ws b + getD ws b 0
 unfolding startIn
 start-more ws b = sum-next b (λ j. getD ws j 0)
@@ -86,61 +75,76 @@ pub start-some : (ws : List ℕ) (n p : ℕ) → p < startIn ws n → 0 < n
 unfolding startIn
 start-some ws = sum-some (λ j. getD ws j 0)
 
-before-first : (bs : List Block) → before bs 0 ≡ 0
-before-first [] = refl
-before-first (B ∷ bs) = refl
+pub size-at : (bs : List Block) (b : ℕ) → getD (sizesOf bs) b 0 ≡ size (blockAt bs b)
+unfolding sizesOf size start
+size-at [] b = omega arith
+size-at (B ∷ bs) zero = refl
+size-at (B ∷ bs) (suc b) = size-at bs b
 
--- where a block starts
-pub start-is : (bs : List Block) (ws : List ℕ) (c : ℕ) → Sizes bs ws c → (b : ℕ) → b ≤ c → startIn ws b ≡ before bs b
-start-is bs ws c h zero l = start-none ws ∙ sym (before-first bs)
-start-is bs ws c h (suc b) l =
-    omega (arith, rw add-one at (start-more ws b), start-is bs ws c h b (omega arith), size-at bs ws c h b (omega arith), before-next bs b)
+pub start-is : (bs : List Block) (b : ℕ) → startIn (sizesOf bs) b ≡ before bs b
+start-is bs zero = start-none (sizesOf bs) ∙ sym (before-zero bs)
+start-is bs (suc b) = omega (arith, rw add-one at (start-more (sizesOf bs) b), start-is bs b, size-at bs b, before-next bs b)
 
 -- ---- the first c blocks have one point for each record
-abbrev pub Plain : List Block → List ℕ → ℕ → Type 0
-Plain bs ws zero = Unit
-Plain [] ws (suc c) = ⊥
-Plain (B ∷ bs) [] (suc c) = ⊥
-Plain (B ∷ bs) (w ∷ ws) (suc c) = (B ≡ alike w 1) × Plain bs ws c
+abbrev pub Plain : List Block → ℕ → Type 0
+Plain bs zero = Unit
+Plain [] (suc c) = ⊥
+Plain (B ∷ bs) (suc c) = (B ≡ alike (records B) 1) × Plain bs c
 
-pub plain-at : (bs : List Block) (ws : List ℕ) (c : ℕ) → Plain bs ws c → (b : ℕ) → b < c → blockAt bs b ≡ alike (getD ws b 0) 1
-plain-at bs ws zero h b l = absurd (omega arith)
-plain-at [] ws (suc c) h b l = absurd h
-plain-at (B ∷ bs) [] (suc c) h b l = absurd h
-plain-at (B ∷ bs) (w ∷ ws) (suc c) h zero l = h .0
-plain-at (B ∷ bs) (w ∷ ws) (suc c) h (suc b) l = plain-at bs ws c (h .1) b (omega arith)
+plain-size : (B : Block) (n : ℕ) → B ≡ alike n 1 → size B ≡ n
+unfolding size start
+plain-size B n e = rw e (one-mul n)
 
-pub plain-sizes : (bs : List Block) (ws : List ℕ) (c : ℕ) → Plain bs ws c → Sizes bs ws c
-plain-sizes bs ws zero h = tt
-plain-sizes [] ws (suc c) h = h
-plain-sizes (B ∷ bs) [] (suc c) h = h
-plain-sizes (B ∷ bs) (w ∷ ws) (suc c) h = (ap size (h .0) ∙ one-mul w, plain-sizes bs ws c (h .1))
+pub plain-at : (bs : List Block) (c : ℕ) → Plain bs c → (b : ℕ) → b < c → blockAt bs b ≡ alike (getD (sizesOf bs) b 0) 1
+unfolding sizesOf
+plain-at bs zero h b l = absurd (omega arith)
+plain-at [] (suc c) h b l = absurd h
+plain-at (B ∷ bs) (suc c) h zero l = h .0 ∙ ap (λ (n : ℕ). alike n 1) (sym (plain-size B (records B) (h .0)))
+plain-at (B ∷ bs) (suc c) h (suc b) l = plain-at bs c (h .1) b (omega arith)
+
+-- the number in such a block
+pub plain-number : (bs : List Block) (c : ℕ) → Plain bs c → (b i : ℕ) → b < c → before bs b + i ≡ numberOf bs (key b i 0)
+unfolding numberOf start
+plain-number bs c h b i l = rw (plain-at bs c h b l) (omega arith)
 
 -- ---- a lookup in such a block, where the layout is in range
-module _ (l : SocWrLayout) (ok : layoutCause l ≡ Accepted) (bs : List Block) (ws : List ℕ) (c : ℕ) (h : Plain bs ws c) (b i : ℕ) (k : b < c) where
-  pub plain-past : getD ws b 0 ≤ i → Lookup.Refused (PastEnd i) ≡ inLayout l bs (key b i 0)
+module _ (l : SocWrLayout) (ok : layoutCause l ≡ Accepted) (bs : List Block) (c : ℕ) (h : Plain bs c) (b i : ℕ) (k : b < c) where
+  pub plain-past : getD (sizesOf bs) b 0 ≤ i → Lookup.Refused (PastEnd i) ≡ inLayout l bs (key b i 0)
   unfolding inLayout afterCheck
-  plain-past p = rw (ok, plain-at bs ws c h b k, le-ltb i (getD ws b 0) p)
+  plain-past p = rw (ok, plain-at bs c h b k, le-ltb i (getD (sizesOf bs) b 0) p)
 
-  pub plain-found : i < getD ws b 0 → (x : ℕ) → x ≡ startIn ws b → Lookup.Number (x + i) ≡ inLayout l bs (key b i 0)
+  pub plain-found : i < getD (sizesOf bs) b 0 → {x : ℕ} → x ≡ numberOf bs (key b i 0) → Lookup.Number x ≡ inLayout l bs (key b i 0)
   unfolding inLayout afterCheck
-  plain-found p x e =
-      let q : x + i ≡ before bs b + (1 * i + 0) = omega (arith, start-is bs ws c (plain-sizes bs ws c h) b (omega arith)) in
-      rw (ok, plain-at bs ws c h b k, lt-ltb i (getD ws b 0) p, q)
+  plain-found p e = rw (ok, plain-at bs c h b k, lt-ltb i (getD (sizesOf bs) b 0) p, e)
 
-pub column-sizes : (l : SocWrLayout) → Sizes (layoutColumns l) (columnSizes l) 10
-column-sizes l =
-    (omega arith, (omega arith, (omega arith, (omega arith, (omega arith, (omega arith, (omega arith, (omega arith, (omega arith, (omega arith, tt))))))))))
+-- ---- a lookup of a branch's four rows
+module _ (l : SocWrLayout) (ok : layoutCause l ≡ Accepted) {e : ℕ} where
+  pub jabr-past : l .m ≤ e → Lookup.Refused (PastEnd e) ≡ rowIn l (Jabr e 0)
+  unfolding inLayout afterCheck layoutRows rowTable
+  jabr-past p = rw (ok, le-ltb e (l .m) p)
 
-pub row-sizes : (l : SocWrLayout) → Sizes (layoutRows l) (rowSizes l) 17
-row-sizes l =
-    (omega arith, (omega arith, (omega arith, (omega arith, (omega arith, (omega arith, (omega arith, (omega arith, (omega arith, (omega arith, (omega arith, (omega arith, (omega arith, (omega arith, (omega arith, (omega arith, (omega arith, tt)))))))))))))))))
+  pub jabr-found : e < l .m → {x : ℕ} → x ≡ layoutRow l (Jabr e 0) → Lookup.Number x ≡ rowIn l (Jabr e 0)
+  unfolding inLayout afterCheck layoutRows rowTable
+  jabr-found p q = rw (ok, lt-ltb e (l .m) p, q)
 
-pub plain-columns : (l : SocWrLayout) → Plain (layoutColumns l) (columnSizes l) 9
-plain-columns l = (refl, (refl, (refl, (refl, (refl, (refl, (refl, (refl, (refl, tt)))))))))
+-- ---- the layout's blocks
+module _ (l : SocWrLayout) where
+  pub plain-columns : Plain (layoutColumns l) 10
+  unfolding layoutColumns columnTable
+  plain-columns = (refl, (refl, (refl, (refl, (refl, (refl, (refl, (refl, (refl, (refl, tt))))))))))
 
-pub plain-rows : (l : SocWrLayout) → Plain (layoutRows l) (rowSizes l) 14
-plain-rows l = (refl, (refl, (refl, (refl, (refl, (refl, (refl, (refl, (refl, (refl, (refl, (refl, (refl, (refl, tt))))))))))))))
+  pub plain-rows : Plain (layoutRows l) 15
+  unfolding layoutRows rowTable
+  plain-rows = (refl, (refl, (refl, (refl, (refl, (refl, (refl, (refl, (refl, (refl, (refl, (refl, (refl, (refl, (refl, tt)))))))))))))))
+
+  -- the blocks of more rows to a record
+  pub jabr-number : (e q : ℕ) → before (layoutRows l) jabrRows + (4 * e + q) ≡ layoutRow l (Jabr e q)
+  unfolding numberOf layoutRows rowTable start
+  jabr-number e q = omega arith
+
+  pub thermal-number : (e q : ℕ) → before (layoutRows l) thermalRows + (6 * e + q) ≡ layoutRow l (Thermal e q)
+  unfolding numberOf layoutRows rowTable start
+  thermal-number e q = omega arith
 
 -- every length is at most 65,536
 abbrev Most : List ℕ → Type 0
@@ -152,12 +156,18 @@ most [] h j = omega arith
 most (w ∷ ws) h zero = h .0
 most (w ∷ ws) h (suc j) = most ws (h .1) j
 
-pub column-most : (l : SocWrLayout) → InRange l → (j : ℕ) → getD (columnSizes l) j 0 ≤ 65536
-column-most l h =
-    most (columnSizes l)
-    (omega arith, (omega arith, (omega arith, (omega arith, (omega arith, (omega arith, (omega arith, (omega arith, (omega arith, (omega arith, tt))))))))))
+pub column-most : (l : SocWrLayout) → InRange l → (j : ℕ) → getD (sizesOf (layoutColumns l)) j 0 ≤ 65536
+unfolding sizesOf layoutColumns columnTable size start
+column-most l h = most (sizesOf (layoutColumns l)) (omega arith)
 
-pub row-most : (l : SocWrLayout) → InRange l → (j : ℕ) → getD (rowSizes l) j 0 ≤ 65536
-row-most l h =
-    most (rowSizes l)
-    (omega arith, (omega arith, (omega arith, (omega arith, (omega arith, (omega arith, (omega arith, (omega arith, (omega arith, (omega arith, (omega arith, (omega arith, (omega arith, (omega arith, (omega arith, (omega arith, (omega arith, tt)))))))))))))))))
+pub row-most : (l : SocWrLayout) → InRange l → (j : ℕ) → getD (sizesOf (layoutRows l)) j 0 ≤ 65536
+unfolding sizesOf layoutRows rowTable size start
+row-most l h = most (sizesOf (layoutRows l)) (omega arith)
+
+pub column-blocks : (l : SocWrLayout) → length (sizesOf (layoutColumns l)) ≡ 10
+unfolding sizesOf layoutColumns columnTable
+column-blocks l = refl
+
+pub row-blocks : (l : SocWrLayout) → length (sizesOf (layoutRows l)) ≡ 17
+unfolding sizesOf layoutRows rowTable
+row-blocks l = refl

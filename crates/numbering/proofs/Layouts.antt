@@ -15,9 +15,8 @@ use Rattle.records.specs.Fields.{segmentsOf}
 use Rattle.records.specs.Network.{networkOf}
 use Rattle.records.specs.Network as Network
 use Rattle.records.proofs.Causes.{counts-in-range}
-use Rattle.numbering.specs.Blocks.{before, total}
-use Rattle.numbering.specs.Numbering.{limits, curves, nvar, ncon, rowBlocks}
-use Rattle.numbering.specs.Layout.{countedOf, layoutOf, layoutCause, InRange, layoutColumns, layoutRows}
+use Rattle.numbering.specs.Numbering.{limits, curves}
+use Rattle.numbering.specs.Layout.{layoutOf, layoutCause, InRange}
 use Rattle.numbering.specs.Tally.{pointsOf, tallyOf}
 use Rattle.numbering.specs.declared.SocWrLayout.{SocWrLayout}
 use Rattle.numbering.specs.declared.Tally.the-variants.{Limited, Piecewise, Segments}
@@ -56,17 +55,6 @@ module _ (n m k s : ℕ) (b : List ℕ) where
         c-range = count-le k (G .piecewise);
       }
 
-  pub counted-range : Network.Accepted n m k s b → InRange (countedOf n m k s)
-  counted-range a =
-      record {
-        n-range = a .few-buses;
-        m-range = a .few-branches;
-        k-range = a .few-generators;
-        s-range = a .few-segments;
-        t-range = omega arith;
-        c-range = omega arith;
-      }
-
   -- the tallies of all records of a kind
   pub limits-tally : tallyOf Limited b n m ≡ limits G
   unfolding tallyOf pointsOf
@@ -101,14 +89,3 @@ module _ (n m k s : ℕ) (b : List ℕ) where
   pub segment-inside : Network.Accepted n m k s b → (g t : ℕ) → g < k → t < segmentsOf b (n + m + g) → sum g (G .segments) + t < s
   segment-inside a g t l h =
       omega (arith, a .counts-add, sum-next g (G .segments), sum-mono (g + 1) k (G .segments) (omega arith))
-
--- the sizes, and the rows of the blocks past the costs, that need the segments to add up
-module _ {A : Type 0} (G : AcNetwork A) where
-  pub nvar-layout : total (layoutColumns (layoutOf G)) ≡ nvar G
-  nvar-layout = omega arith
-
-  pub ncon-layout : sum (G .k) (G .segments) ≡ G .s → total (layoutRows (layoutOf G)) ≡ ncon G
-  ncon-layout h = omega arith
-
-  pub thermal-layout : sum (G .k) (G .segments) ≡ G .s → before (layoutRows (layoutOf G)) 16 ≡ before (rowBlocks G) 16
-  thermal-layout h = omega arith

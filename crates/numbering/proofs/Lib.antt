@@ -2,6 +2,7 @@ pub mod Tallies
 pub mod Layouts
 pub mod Laid
 pub mod Points
+pub mod Numbers
 pub mod Names
 pub mod Entered
 pub mod ConeLengths

@@ -9,13 +9,14 @@ use Rattle.lists.specs.UpTo.{bit, sum}
 use Rattle.lists.proofs.Sums.{bit-le}
 use Rattle.records.specs.AcNetwork.{AcNetwork}
 use Rattle.numbering.specs.Blocks.{Block, points, blockAt, key, Valid, keyAt}
-use Rattle.numbering.specs.Numbering.{SameKey, columnKey, columnNames, columnOf, columnBlocks, columnAt, ColumnStands, nvar, rowKey, rowNames, rowOf, rowBlocks, rowAt, RowStands, ncon, coneLengths, added}
+use Rattle.numbering.specs.Numbering.{SameKey, columnTable, columnKey, columnNames, columnOf, columnBlocks, columnNumber, columnAt, ColumnStands, nvar, rowTable, rowKey, rowNames, rowOf, rowBlocks, rowNumber, rowAt, RowStands, ncon, coneLengths, added}
 use Rattle.numbering.specs.declared.Key.{Key}
 use Rattle.numbering.specs.declared.ColumnName.{ColumnName}
 use Rattle.numbering.specs.declared.ColumnName.the-variants.{Pg, Qg, W, Wr, Wi, Pf, Pt, Qf, Qt, CostOf}
 use Rattle.numbering.specs.declared.RowName.{RowName}
 use Rattle.numbering.specs.declared.RowName.the-variants.{Pbal, Qbal, OhmPf, OhmQf, OhmPt, OhmQt, Wub, Wlb, Pgub, Pglb, Qgub, Qglb, Angub, Anglb, Segment, Jabr, Thermal}
 use Rattle.numbering.proofs.Points.{key-right, key-placed}
+use Rattle.numbering.proofs.Numbers.{ncon-number}
 
 -- a table of names: from block b on, each name of record i and place q that is valid has the key (b, i, q)
 abbrev Named : {A : Type 0} → (A → Key) → ℕ → ℕ → List Block → List A → ℕ → Type 0
@@ -87,6 +88,7 @@ added-replicate (suc n) w = omega (arith, added-replicate n w)
 
 module _ {A : Type 0} (G : AcNetwork A) where
   row-named : (i q : ℕ) → Named rowKey i q (rowBlocks G) (rowNames i q) 0
+  unfolding rowBlocks rowTable
   row-named i q =
       (one 0 i q, (one 1 i q, (one 2 i q, (one 3 i q, (one 4 i q, (one 5 i q, (one 6 i q, (one 7 i q, (one 8 i q, (one 9 i q, (one 10 i q, (one 11 i q, (one 12 i q, (one 13 i q, (λ h. refl, (λ h. refl, (λ h. refl, tt)))))))))))))))))
 
@@ -96,15 +98,18 @@ module _ {A : Type 0} (G : AcNetwork A) where
       (row-named (x .item) (x .place)) (Pbal 0) (x .block) (v .place))
 
   pub row-stands : (p : ℕ) → p < ncon G → RowStands G p (rowAt G p)
+  unfolding ncon rowAt rowNumber
   row-stands p b =
       let r = key-right (rowBlocks G) p b in
       let e = row-key (keyAt (rowBlocks G) p) (r .valid) in
       record { valid = rw e (r .valid); number = rw e (r .number) }
 
   pub row-only : (p : ℕ) → p < ncon G → (x : RowName) → RowStands G p x → x ≡ rowAt G p
+  unfolding rowAt rowNumber
   row-only p b x s = sym (row-of x) ∙ ap rowOf (sym (key-placed (rowBlocks G) (rowKey x) (s .valid))) ∙ ap (rowAt G) (s .number)
 
   column-named : (i q : ℕ) → Named columnKey i q (columnBlocks G) (columnNames i) 0
+  unfolding columnBlocks columnTable
   column-named i q =
       (one 0 i q, (one 1 i q, (one 2 i q, (one 3 i q, (one 4 i q, (one 5 i q, (one 6 i q, (one 7 i q, (one 8 i q, (only 9 i q (1 * bit (G .piecewise i)) (omega (arith, bit-le (G .piecewise i))), tt))))))))))
 
@@ -114,14 +119,16 @@ module _ {A : Type 0} (G : AcNetwork A) where
       (column-named (x .item) (x .place)) (Pg 0) (x .block) (v .place))
 
   pub column-stands : (p : ℕ) → p < nvar G → ColumnStands G p (columnAt G p)
+  unfolding nvar columnAt columnNumber
   column-stands p b =
       let r = key-right (columnBlocks G) p b in
       let e = column-key (keyAt (columnBlocks G) p) (r .valid) in
       record { valid = rw e (r .valid); number = rw e (r .number) }
 
   pub column-only : (p : ℕ) → p < nvar G → (x : ColumnName) → ColumnStands G p x → x ≡ columnAt G p
+  unfolding columnAt columnNumber
   column-only p b x s = sym (column-of x) ∙ ap columnOf (sym (key-placed (columnBlocks G) (columnKey x) (s .valid))) ∙ ap (columnAt G) (s .number)
 
   -- the cones' lengths add up to the rows
   pub cones-add : sum (G .k) (G .segments) ≡ G .s → added (coneLengths G) ≡ ncon G
-  cones-add h = simp (added-append, added-replicate) (omega (arith, h))
+  cones-add h = simp (added-append, added-replicate, ncon-number) (omega (arith, h))

@@ -58,20 +58,22 @@ placed-at s up (suc n) i q l h = elim (ℕ-discrete i n) [
 
 -- ---- a block, and a list of blocks
 pub start-next : (B : Block) (i : ℕ) → start B (suc i) ≡ start B i + points B i
-unfolding upTo
+unfolding upTo start
 start-next (alike n w) i = let e : suc i ≡ i + 1 = omega arith in rw (e, mul-add w i 1, mul-one w)
 start-next (unlike n w f) i = mul-add w (sum i f) (f i)
 
-start-zero : (B : Block) → start B 0 ≡ 0
-unfolding upTo
+pub start-zero : (B : Block) → start B 0 ≡ 0
+unfolding upTo start
 start-zero (alike n w) = omega arith
 start-zero (unlike n w f) = omega arith
 
-before-zero : (bs : List Block) → before bs 0 ≡ 0
+pub before-zero : (bs : List Block) → before bs 0 ≡ 0
+unfolding before
 before-zero [] = refl
 before-zero (B ∷ bs) = refl
 
 pub before-next : (bs : List Block) (b : ℕ) → before bs (suc b) ≡ before bs b + size (blockAt bs b)
+unfolding before size start
 before-next [] b = omega arith
 before-next (B ∷ bs) zero = omega (arith, before-zero bs)
 before-next (B ∷ bs) (suc b) = omega (arith, before-next bs b)
@@ -89,6 +91,7 @@ among (B ∷ bs) (suc b) i h = omega (arith, among bs b i h)
 
 -- ---- the key of a point is valid, and its number is the point
 pub key-right : (bs : List Block) (p : ℕ) → p < total bs → KeyStands bs p (keyAt bs p)
+unfolding total size keyAt keyIn numberOf
 key-right bs p h =
     let o = find (before bs) (length bs) p in
     let B = blockAt bs (o .item) in
@@ -109,19 +112,28 @@ module _ (bs : List Block) (k : Key) (v : Valid bs k) where
   inner = omega (arith, start-next B (k .item), v .place)
 
   in-size : start B (k .item) + k .place < size B
+  unfolding size
   in-size = omega (arith, inner, rising (start B) (start-up B) (suc (k .item)) (records B) (v .item))
 
   outer : before bs (k .block) + (start B (k .item) + k .place) < before bs (suc (k .block))
   outer = omega (arith, in-size, before-next bs (k .block))
 
   pub key-placed : keyAt bs (numberOf bs k) ≡ k
+  unfolding keyAt keyIn numberOf
   key-placed =
       ap (keyIn bs) (placed-at (before bs) (before-up bs) (length bs) (k .block) _ (among bs (k .block) (k .item) (v .item)) outer)
       ∙ ap (inBlock (k .block)) (placed-at (start B) (start-up B) (records B) (k .item) (k .place) (v .item) inner)
 
   pub key-below : numberOf bs k < total bs
+  unfolding numberOf total
   key-below = omega (arith, outer, rising (before bs) (before-up bs) (suc (k .block)) (length bs) (among bs (k .block) (k .item) (v .item)))
 
 -- so whatever key stands at a point is its key
 pub key-only : (bs : List Block) (p : ℕ) (k : Key) → KeyStands bs p k → k ≡ keyAt bs p
 key-only bs p k h = sym (key-placed bs k (h .valid)) ∙ ap (keyAt bs) (h .number)
+
+-- ---- a key of an earlier block has a smaller number
+pub block-rises : (bs : List Block) (j k : Key) → Valid bs j → Valid bs k → j .block < k .block → numberOf bs j < numberOf bs k
+unfolding numberOf
+block-rises bs j k v w h =
+    omega (arith, outer bs j v, rising (before bs) (before-up bs) (suc (j .block)) (k .block) (omega arith))

@@ -24,23 +24,23 @@ abbrev pub points : Block → ℕ → ℕ
 points (alike n w) i = w
 points (unlike n w f) i = w * f i
 
-abbrev pub start : Block → ℕ → ℕ
+unfoldable pub start : Block → ℕ → ℕ
 start (alike n w) i = w * i
 start (unlike n w f) i = w * sum i f
 
-abbrev pub size : Block → ℕ
+unfoldable pub size : Block → ℕ
 size B = start B (records B)
 
 -- block b, and the points of all blocks before it
 abbrev pub blockAt : List Block → ℕ → Block
 blockAt bs b = getD bs b (alike 0 0)
 
-abbrev pub before : List Block → ℕ → ℕ
+unfoldable pub before : List Block → ℕ → ℕ
 before [] b = 0
 before (B ∷ bs) zero = 0
 before (B ∷ bs) (suc b) = size B + before bs b
 
-abbrev pub total : List Block → ℕ
+unfoldable pub total : List Block → ℕ
 total bs = before bs (length bs)
 
 abbrev pub key : ℕ → ℕ → ℕ → Key
@@ -52,7 +52,7 @@ pub record Valid (bs : List Block) (k : Key) : Type 0 where
   pub place : k .place < points (blockAt bs (k .block)) (k .item)
 
 -- the points of the blocks before its own, of the records before its own in the block, and its place
-abbrev pub numberOf : List Block → Key → ℕ
+unfoldable pub numberOf : List Block → Key → ℕ
 numberOf bs k = before bs (k .block) + (start (blockAt bs (k .block)) (k .item) + k .place)
 
 -- a key that stands for point p
@@ -75,9 +75,9 @@ find s (suc n) p = pickPlace (ltb p (s n)) (find s n p) (placed n (p - s n))
 abbrev pub inBlock : ℕ → Place → Key
 inBlock b q = key b (q .item) (q .at)
 
-abbrev pub keyIn : List Block → Place → Key
+unfoldable pub keyIn : List Block → Place → Key
 keyIn bs q = inBlock (q .item) (find (start (blockAt bs (q .item))) (records (blockAt bs (q .item))) (q .at))
 
 -- the key of point p
-abbrev pub keyAt : List Block → ℕ → Key
+unfoldable pub keyAt : List Block → ℕ → Key
 keyAt bs p = keyIn bs (find (before bs) (length bs) p)

@@ -1,7 +1,7 @@
 -- The layout: counts alone, and what they give of the numbering.
 use Prim.Native.Nat.{ℕ, _+_, _*_, _≤_, _<_}
 use mathlib.Core.Path.{_≡_}
-use mathlib.Core.List.{List, [], _∷_}
+use mathlib.Core.List.{List, map}
 use lib.Dec.{leb}
 use lib.ListN.{getD}
 use Rattle.lists.specs.UpTo.{sum}
@@ -10,8 +10,8 @@ use Rattle.refusals.specs.declared.Checked.{Checked}
 use Rattle.refusals.specs.declared.Refusal.the-variants.{CountTooLarge}
 use Rattle.records.specs.Check.{countCause}
 use Rattle.records.specs.AcNetwork.{AcNetwork}
-use Rattle.numbering.specs.Blocks.{Block, alike, numberOf}
-use Rattle.numbering.specs.Numbering.{limits, curves, columnKey, rowKey}
+use Rattle.numbering.specs.Blocks.{Block, alike, size, total, numberOf}
+use Rattle.numbering.specs.Numbering.{limits, curves, columnTable, rowTable, columnKey, rowKey}
 use Rattle.numbering.specs.declared.SocWrLayout.{SocWrLayout}
 use Rattle.numbering.specs.declared.Place.{Place}
 use Rattle.numbering.specs.declared.ColumnName.{ColumnName}
@@ -41,32 +41,23 @@ pub record InRange (l : SocWrLayout) : Type 0 where
   pub t-range : l .t ≤ l .m
   pub c-range : l .«cost_columns» ≤ l .k
 
--- the blocks by counts alone: as `columnBlocks` and `rowBlocks`, with one record for each point of the cost columns and cost rows, and one
--- of six rows for each limited branch
-abbrev pub layoutColumns : SocWrLayout → List Block
-layoutColumns l =
-    alike (l .k) 1 ∷ alike (l .k) 1 ∷ alike (l .n) 1
-    ∷ alike (l .m) 1 ∷ alike (l .m) 1 ∷ alike (l .m) 1 ∷ alike (l .m) 1 ∷ alike (l .m) 1 ∷ alike (l .m) 1
-    ∷ alike (l .«cost_columns») 1 ∷ []
+-- the blocks by counts alone: one record for each point of the cost columns and cost rows, and one of six rows for each limited branch
+unfoldable pub layoutColumns : SocWrLayout → List Block
+layoutColumns l = columnTable (l .n) (l .m) (l .k) (alike (l .«cost_columns») 1)
 
-abbrev pub layoutRows : SocWrLayout → List Block
-layoutRows l =
-    alike (l .n) 1 ∷ alike (l .n) 1
-    ∷ alike (l .m) 1 ∷ alike (l .m) 1 ∷ alike (l .m) 1 ∷ alike (l .m) 1
-    ∷ alike (l .n) 1 ∷ alike (l .n) 1
-    ∷ alike (l .k) 1 ∷ alike (l .k) 1 ∷ alike (l .k) 1 ∷ alike (l .k) 1
-    ∷ alike (l .m) 1 ∷ alike (l .m) 1
-    ∷ alike (l .s) 1
-    ∷ alike (l .m) 4
-    ∷ alike (l .t) 6 ∷ []
+unfoldable pub layoutRows : SocWrLayout → List Block
+layoutRows l = rowTable (l .n) (l .m) (l .k) (alike (l .s) 1) (alike (l .t) 6)
+
+-- the columns and the rows
+unfoldable pub nvarOf : SocWrLayout → ℕ
+nvarOf l = total (layoutColumns l)
+
+unfoldable pub nconOf : SocWrLayout → ℕ
+nconOf l = total (layoutRows l)
 
 -- the blocks' lengths
-abbrev pub columnSizes : SocWrLayout → List ℕ
-columnSizes l = l .k ∷ l .k ∷ l .n ∷ l .m ∷ l .m ∷ l .m ∷ l .m ∷ l .m ∷ l .m ∷ l .«cost_columns» ∷ []
-
-abbrev pub rowSizes : SocWrLayout → List ℕ
-rowSizes l =
-    l .n ∷ l .n ∷ l .m ∷ l .m ∷ l .m ∷ l .m ∷ l .n ∷ l .n ∷ l .k ∷ l .k ∷ l .k ∷ l .k ∷ l .m ∷ l .m ∷ l .s ∷ 4 * l .m ∷ 6 * l .t ∷ []
+unfoldable pub sizesOf : List Block → List ℕ
+sizesOf bs = map size bs
 
 -- where a block starts, and the block that a point is in with its place there
 unfoldable pub startIn : List ℕ → ℕ → ℕ
@@ -83,7 +74,8 @@ nEqOf l = 2 * l .n + 4 * l .m
 abbrev pub nIneqOf : SocWrLayout → ℕ
 nIneqOf l = 2 * l .n + 4 * l .k + 2 * l .m + l .s
 
--- the number of a column or row that the counts alone give: any but those of cost and thermal
+-- the number of a column or row by counts alone: a cost column by the count of those before it, a segment by its place among all, a
+-- thermal row by the count of the limited branches before its own
 abbrev pub layoutColumn : SocWrLayout → ColumnName → ℕ
 layoutColumn l x = numberOf (layoutColumns l) (columnKey x)
 

@@ -74,6 +74,15 @@ layoutAnswer (Refused cause) l = LayoutAnswer.Refused cause
 abbrev pub newLayout : ℕ → ℕ → ℕ → ℕ → List ℕ → LayoutAnswer
 newLayout n m k s b = layoutAnswer (checkOf n m k s b) (layoutOf (networkOf n m k s b))
 
+-- the number and the value of such an answer: 0 and 0 where it is a layout
+abbrev pub layoutNumber : LayoutAnswer → ℕ
+layoutNumber (LayoutAnswer.Layout l) = 0
+layoutNumber (LayoutAnswer.Refused cause) = causeNumber cause
+
+abbrev pub layoutValue : LayoutAnswer → ℕ
+layoutValue (LayoutAnswer.Layout l) = 0
+layoutValue (LayoutAnswer.Refused cause) = causeValue cause
+
 -- a layout where the check passed, and else its counts alone
 abbrev pub layoutIf : {A : Type 0} → Checked → AcNetwork A → SocWrLayout
 layoutIf c G = record { n = G .n; m = G .m; k = G .k; s = G .s; t = ifAccepted c (limits G); «cost_columns» = ifAccepted c (curves G) }

@@ -1,7 +1,9 @@
 -- The numbering of the columns and rows: document 01's blocks in their order (`problem/conic.rs`, `SocWrLayout`), and names as keys and back.
 use Prim.Native.Nat.{ℕ, _+_, _*_}
 use mathlib.Core.Path.{_≡_}
+use mathlib.Core.Bool.{Bool, not, _||_}
 use mathlib.Core.List.{List, [], _∷_, _++_}
+use lib.Dec.{eqb}
 use lib.ListN.{getD, replicate}
 use Rattle.lists.specs.UpTo.{bit, count}
 use Rattle.records.specs.AcNetwork.{AcNetwork}
@@ -15,6 +17,19 @@ use Rattle.numbering.specs.declared.RowName.the-variants.{Pbal, Qbal, Oh
 -- ---- "A name is one block of these columns or rows with one of its buses, branches, generators or segments of a generator, and in jabr
 -- and thermal also the place among the branch's rows": a name as a key of block, record and place
 
+-- the blocks whose records differ, and the four rows of a branch, by number
+abbrev pub costColumns : ℕ
+costColumns = 9
+
+abbrev pub costRows : ℕ
+costRows = 14
+
+abbrev pub jabrRows : ℕ
+jabrRows = 15
+
+abbrev pub thermalRows : ℕ
+thermalRows = 16
+
 abbrev pub columnKey : ColumnName → Key
 columnKey (Pg g) = key 0 g 0
 columnKey (Qg g) = key 1 g 0
@@ -25,7 +40,7 @@ columnKey (Pf e) = key 5 e 0
 columnKey (Pt e) = key 6 e 0
 columnKey (Qf e) = key 7 e 0
 columnKey (Qt e) = key 8 e 0
-columnKey (CostOf g) = key 9 g 0
+columnKey (CostOf g) = key costColumns g 0
 
 abbrev pub rowKey : RowName → Key
 rowKey (Pbal i) = key 0 i 0
@@ -42,9 +57,16 @@ rowKey (Qgub g) = key 10 g 0
 rowKey (Qglb g) = key 11 g 0
 rowKey (Angub e) = key 12 e 0
 rowKey (Anglb e) = key 13 e 0
-rowKey (Segment g t) = key 14 g t
-rowKey (Jabr e q) = key 15 e q
-rowKey (Thermal e q) = key 16 e q
+rowKey (Segment g t) = key costRows g t
+rowKey (Jabr e q) = key jabrRows e q
+rowKey (Thermal e q) = key thermalRows e q
+
+-- whether the counts alone give the number: of any column but those of cost, of any row but those of segments and thermal limits
+abbrev pub columnCounted : ColumnName → Bool
+columnCounted x = not (eqb (columnKey x .block) costColumns)
+
+abbrev pub rowCounted : RowName → Bool
+rowCounted x = not (eqb (rowKey x .block) costRows || eqb (rowKey x .block) thermalRows)
 
 -- two keys are the same
 pub record SameKey (a b : Key) : Type 0 where
@@ -68,6 +90,26 @@ rowNames i q =
 abbrev pub rowOf : Key → RowName
 rowOf x = getD (rowNames (x .item) (x .place)) (x .block) (Pbal 0)
 
+-- ---- "Columns: pg k, qg k, w n, wr m, wi m, pf m, pt m, qf m, qt m, then one for each piecewise generator": the last block is cost
+unfoldable pub columnTable : (n m k : ℕ) → Block → List Block
+columnTable n m k cost =
+    alike k 1 ∷ alike k 1 ∷ alike n 1
+    ∷ alike m 1 ∷ alike m 1 ∷ alike m 1 ∷ alike m 1 ∷ alike m 1 ∷ alike m 1
+    ∷ cost ∷ []
+
+-- "Rows: pbal n, qbal n, ohm_pf m, ohm_qf m, ohm_pt m, ohm_qt m; wub n, wlb n, pgub k, pglb k, qgub k, qglb k, angub m, anglb m, cost S;
+-- jabr 4 a branch; thermal 6 for each active branch"
+unfoldable pub rowTable : (n m k : ℕ) → Block → Block → List Block
+rowTable n m k cost thermal =
+    alike n 1 ∷ alike n 1
+    ∷ alike m 1 ∷ alike m 1 ∷ alike m 1 ∷ alike m 1
+    ∷ alike n 1 ∷ alike n 1
+    ∷ alike k 1 ∷ alike k 1 ∷ alike k 1 ∷ alike k 1
+    ∷ alike m 1 ∷ alike m 1
+    ∷ cost
+    ∷ alike m 4
+    ∷ thermal ∷ []
+
 module _ {A : Type 0} (G : AcNetwork A) where
   -- T: the limited branches; and the piecewise generators
   abbrev pub limits : ℕ
@@ -76,34 +118,21 @@ module _ {A : Type 0} (G : AcNetwork A) where
   abbrev pub curves : ℕ
   curves = count (G .k) (G .piecewise)
 
-  -- ---- "Columns: pg k, qg k, w n, wr m, wi m, pf m, pt m, qf m, qt m, then one for each piecewise generator."
-  abbrev pub columnBlocks : List Block
-  columnBlocks =
-      alike (G .k) 1 ∷ alike (G .k) 1 ∷ alike (G .n) 1
-      ∷ alike (G .m) 1 ∷ alike (G .m) 1 ∷ alike (G .m) 1 ∷ alike (G .m) 1 ∷ alike (G .m) 1 ∷ alike (G .m) 1
-      ∷ unlike (G .k) 1 (λ g. bit (G .piecewise g)) ∷ []
+  -- the network's blocks: a cost column for each piecewise generator, a cost row for each segment, six rows for each limited branch
+  unfoldable pub columnBlocks : List Block
+  columnBlocks = columnTable (G .n) (G .m) (G .k) (unlike (G .k) 1 (λ g. bit (G .piecewise g)))
 
-  -- "Rows: pbal n, qbal n, ohm_pf m, ohm_qf m, ohm_pt m, ohm_qt m; wub n, wlb n, pgub k, pglb k, qgub k, qglb k, angub m, anglb m, cost S;
-  -- jabr 4 a branch; thermal 6 for each active branch"
-  abbrev pub rowBlocks : List Block
-  rowBlocks =
-      alike (G .n) 1 ∷ alike (G .n) 1
-      ∷ alike (G .m) 1 ∷ alike (G .m) 1 ∷ alike (G .m) 1 ∷ alike (G .m) 1
-      ∷ alike (G .n) 1 ∷ alike (G .n) 1
-      ∷ alike (G .k) 1 ∷ alike (G .k) 1 ∷ alike (G .k) 1 ∷ alike (G .k) 1
-      ∷ alike (G .m) 1 ∷ alike (G .m) 1
-      ∷ unlike (G .k) 1 (G .segments)
-      ∷ alike (G .m) 4
-      ∷ unlike (G .m) 6 (λ e. bit (G .limited e)) ∷ []
+  unfoldable pub rowBlocks : List Block
+  rowBlocks = rowTable (G .n) (G .m) (G .k) (unlike (G .k) 1 (G .segments)) (unlike (G .m) 6 (λ e. bit (G .limited e)))
 
   -- ---- the columns
-  abbrev pub nvar : ℕ
+  unfoldable pub nvar : ℕ
   nvar = total columnBlocks
 
-  abbrev pub columnNumber : ColumnName → ℕ
+  unfoldable pub columnNumber : ColumnName → ℕ
   columnNumber x = numberOf columnBlocks (columnKey x)
 
-  abbrev pub columnAt : ℕ → ColumnName
+  unfoldable pub columnAt : ℕ → ColumnName
   columnAt p = columnOf (keyAt columnBlocks p)
 
   -- "a name stands at its number": the network has a column of this name, and its number is p
@@ -112,13 +141,13 @@ module _ {A : Type 0} (G : AcNetwork A) where
     pub number : columnNumber x ≡ p
 
   -- ---- the rows
-  abbrev pub ncon : ℕ
+  unfoldable pub ncon : ℕ
   ncon = total rowBlocks
 
-  abbrev pub rowNumber : RowName → ℕ
+  unfoldable pub rowNumber : RowName → ℕ
   rowNumber x = numberOf rowBlocks (rowKey x)
 
-  abbrev pub rowAt : ℕ → RowName
+  unfoldable pub rowAt : ℕ → RowName
   rowAt p = rowOf (keyAt rowBlocks p)
 
   pub record RowStands (p : ℕ) (x : RowName) : Type 0 where

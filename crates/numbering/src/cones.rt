@@ -1,6 +1,5 @@
 // The lengths of the cones, in Clarabel's order of rows.
 use crate::SocWrLayout;
-use crate::inner;
 use crate::layout::check_layout;
 use refusals::Written;
 use refusals::is_refused;
@@ -23,10 +22,10 @@ fn cone_length(l: SocWrLayout, i: usize) -> u32
     ensures { λ r. ⌜ r ≡ getD (conesOf l) i 0 ⌝ }
 {
     if i < 1 {
-        return inner::n_eq(l);
+        return l.zero_rows();
     }
     if i < 2 {
-        return inner::n_ineq(l);
+        return l.nonnegative_rows();
     }
     if i - 2 < l.m {
         return 4;

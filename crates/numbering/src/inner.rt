@@ -1,296 +1,303 @@
-// The formulas of the Rust's `SocWrLayout`, for a layout whose counts are in range and an index below its count.
+// The layout's methods that rely on a layout in range: where a block starts, and the number of each kind of name.
+// An index may be the count itself: that number is where the block ends.
 use crate::SocWrLayout;
-use crate::Tally;
 
 pub mod blocks;
 pub mod tally;
 
 ghost use mathlib.Core.Path.{_≡_};
 ghost use Prim.Native.Nat.{_+_, _*_, _≤_, _<_};
-ghost use Rattle.numbering.specs.Blocks.{before, total};
-ghost use Rattle.records.specs.Network.{Accepted, networkOf};
-ghost use Rattle.numbering.specs.Layout.{InRange, countedOf, layoutOf, layoutColumns, layoutRows, nEqOf, nIneqOf, layoutColumn, layoutRow};
-ghost use Rattle.numbering.specs.declared.ColumnName.the-variants.{Pg, Qg, W, Wr, Wi, Pf, Pt, Qf, Qt};
-ghost use Rattle.numbering.specs.declared.RowName.the-variants.{Pbal, Qbal, OhmPf, OhmQf, OhmPt, OhmQt, Wub, Wlb, Pgub, Pglb, Qgub, Qglb, Angub, Anglb, Jabr};
+ghost use Rattle.numbering.specs.Blocks.{key, before, numberOf};
+ghost use Rattle.numbering.specs.Layout.{InRange, layoutColumns, layoutRows, layoutColumn, layoutRow, nEqOf, nIneqOf, nvarOf, nconOf};
+ghost use Rattle.numbering.specs.declared.ColumnName.the-variants.{Pg, Qg, W, Wr, Wi, Pf, Pt, Qf, Qt, CostOf};
+ghost use Rattle.numbering.specs.declared.RowName.the-variants.{Pbal, Qbal, OhmPf, OhmQf, OhmPt, OhmQt, Wub, Wlb, Pgub, Pglb, Qgub, Qglb, Angub, Anglb, Segment, Jabr, Thermal};
 
-// A layout of counts alone, with no limited branch and no cost column: what does not depend on these is as in the network.
-pub fn counted(n: usize, m: usize, k: usize, s: usize) -> SocWrLayout
-    ensures { λ r. ⌜ r ≡ countedOf n m k s ⌝ }
-{
-    SocWrLayout {
-        n,
-        m,
-        k,
-        s,
-        t: 0,
-        cost_columns: 0,
+impl SocWrLayout {
+    // A block's first column, and its first row: the lengths of the blocks before it.
+    fn column_start(self, block: usize) -> u32
+        requires { ⌜ InRange self ⌝ }
+        requires { ⌜ block ≤ 10 ⌝ }
+        ensures { λ r. ⌜ r ≡ before (layoutColumns self) block ⌝ }
+        ensures { λ r. ⌜ r ≤ 1114112 ⌝ }
+    {
+        let sizes = blocks::column_sizes(self);
+        blocks::start_of(&sizes, block) as u32
     }
-}
 
-// The layout of an accepted network.
-pub fn layout(n: usize, m: usize, k: usize, s: usize, bytes: &[u8]) -> SocWrLayout
-    requires { ⌜ Accepted n m k s (now bytes) ⌝ }
-    ensures { λ r. ⌜ r ≡ layoutOf (networkOf n m k s (now (bytes .entry))) ⌝ }
-{
-    let t = tally::tally(bytes, Tally::Limited, n, m);
-    let cost_columns = tally::tally(bytes, Tally::Piecewise, n + m, k);
-    SocWrLayout {
-        n,
-        m,
-        k,
-        s,
-        t,
-        cost_columns,
+    fn row_start(self, block: usize) -> u32
+        requires { ⌜ InRange self ⌝ }
+        requires { ⌜ block ≤ 17 ⌝ }
+        ensures { λ r. ⌜ r ≡ before (layoutRows self) block ⌝ }
+        ensures { λ r. ⌜ r ≤ 1114112 ⌝ }
+    {
+        let sizes = blocks::row_sizes(self);
+        blocks::start_of(&sizes, block) as u32
     }
-}
 
-pub fn n_eq(l: SocWrLayout) -> u32
-    requires { ⌜ InRange l ⌝ }
-    ensures { λ r. ⌜ r ≡ nEqOf l ⌝ }
-{
-    (2 * l.n + 4 * l.m) as u32
-}
+    // Column i of a block; and row i of a block whose records have one row each.
+    pub fn column_at(self, block: usize, i: usize) -> u32
+        requires { ⌜ InRange self ⌝ }
+        requires { ⌜ (block < 10) × (i ≤ 65536) ⌝ }
+        ensures { λ r. ⌜ r ≡ numberOf (layoutColumns self) (key block i 0) ⌝ }
+    {
+        self.column_start(block) + i as u32
+    }
 
-pub fn n_ineq(l: SocWrLayout) -> u32
-    requires { ⌜ InRange l ⌝ }
-    ensures { λ r. ⌜ r ≡ nIneqOf l ⌝ }
-{
-    (2 * l.n + 4 * l.k + 2 * l.m + l.s) as u32
-}
+    pub fn row_at(self, block: usize, i: usize) -> u32
+        requires { ⌜ InRange self ⌝ }
+        requires { ⌜ (block < 15) × (i ≤ 65536) ⌝ }
+        ensures { λ r. ⌜ r ≡ numberOf (layoutRows self) (key block i 0) ⌝ }
+    {
+        self.row_start(block) + i as u32
+    }
 
-pub fn nvar(l: SocWrLayout) -> u32
-    requires { ⌜ InRange l ⌝ }
-    ensures { λ r. ⌜ r ≡ total (layoutColumns l) ⌝ }
-{
-    (2 * l.k + l.n + 6 * l.m + l.cost_columns) as u32
-}
+    // The columns, and the rows.
+    pub fn column_count(self) -> u32
+        requires { ⌜ InRange self ⌝ }
+        ensures { λ r. ⌜ r ≡ nvarOf self ⌝ }
+    {
+        self.column_start(blocks::COLUMN_BLOCKS)
+    }
 
-pub fn ncon(l: SocWrLayout) -> u32
-    requires { ⌜ InRange l ⌝ }
-    ensures { λ r. ⌜ r ≡ total (layoutRows l) ⌝ }
-{
-    (4 * l.n + 4 * l.k + 10 * l.m + l.s + 6 * l.t) as u32
-}
+    pub fn row_count(self) -> u32
+        requires { ⌜ InRange self ⌝ }
+        ensures { λ r. ⌜ r ≡ nconOf self ⌝ }
+    {
+        self.row_start(blocks::ROW_BLOCKS)
+    }
 
-// The first row of the second-order cones.
-pub fn soc_base(l: SocWrLayout) -> u32
-    requires { ⌜ InRange l ⌝ }
-    ensures { λ r. ⌜ r ≡ before (layoutRows l) 15 ⌝ }
-{
-    (4 * l.n + 4 * l.k + 6 * l.m + l.s) as u32
-}
+    // The rows of the zero cone, and of the nonnegative cone.
+    pub fn zero_rows(self) -> u32
+        requires { ⌜ InRange self ⌝ }
+        ensures { λ r. ⌜ r ≡ nEqOf self ⌝ }
+    {
+        (2 * self.n + 4 * self.m) as u32
+    }
 
-// The first cost column, the first cost row and the first thermal row.
-pub fn cost_base(l: SocWrLayout) -> u32
-    requires { ⌜ InRange l ⌝ }
-    ensures { λ r. ⌜ r ≡ before (layoutColumns l) 9 ⌝ }
-{
-    (2 * l.k + l.n + 6 * l.m) as u32
-}
+    pub fn nonnegative_rows(self) -> u32
+        requires { ⌜ InRange self ⌝ }
+        ensures { λ r. ⌜ r ≡ nIneqOf self ⌝ }
+    {
+        (2 * self.n + 4 * self.k + 2 * self.m + self.s) as u32
+    }
 
-pub fn segment_base(l: SocWrLayout) -> u32
-    requires { ⌜ InRange l ⌝ }
-    ensures { λ r. ⌜ r ≡ before (layoutRows l) 14 ⌝ }
-{
-    (4 * l.n + 4 * l.k + 6 * l.m) as u32
-}
+    pub fn pg_column(self, g: usize) -> u32
+        requires { ⌜ InRange self ⌝ }
+        requires { ⌜ g ≤ self .k ⌝ }
+        ensures { λ r. ⌜ r ≡ layoutColumn self (Pg g) ⌝ }
+    {
+        self.column_at(blocks::PG, g)
+    }
 
-pub fn thermal_base(l: SocWrLayout) -> u32
-    requires { ⌜ InRange l ⌝ }
-    ensures { λ r. ⌜ r ≡ before (layoutRows l) 16 ⌝ }
-{
-    (4 * l.n + 4 * l.k + 10 * l.m + l.s) as u32
-}
+    pub fn qg_column(self, g: usize) -> u32
+        requires { ⌜ InRange self ⌝ }
+        requires { ⌜ g ≤ self .k ⌝ }
+        ensures { λ r. ⌜ r ≡ layoutColumn self (Qg g) ⌝ }
+    {
+        self.column_at(blocks::QG, g)
+    }
 
-pub fn col_pg(l: SocWrLayout, g: usize) -> u32
-    requires { ⌜ InRange l ⌝ }
-    requires { ⌜ g < l .k ⌝ }
-    ensures { λ r. ⌜ r ≡ layoutColumn l (Pg g) ⌝ }
-{
-    (g) as u32
-}
+    pub fn w_column(self, i: usize) -> u32
+        requires { ⌜ InRange self ⌝ }
+        requires { ⌜ i ≤ self .n ⌝ }
+        ensures { λ r. ⌜ r ≡ layoutColumn self (W i) ⌝ }
+    {
+        self.column_at(blocks::W, i)
+    }
 
-pub fn col_qg(l: SocWrLayout, g: usize) -> u32
-    requires { ⌜ InRange l ⌝ }
-    requires { ⌜ g < l .k ⌝ }
-    ensures { λ r. ⌜ r ≡ layoutColumn l (Qg g) ⌝ }
-{
-    (l.k + g) as u32
-}
+    pub fn wr_column(self, e: usize) -> u32
+        requires { ⌜ InRange self ⌝ }
+        requires { ⌜ e ≤ self .m ⌝ }
+        ensures { λ r. ⌜ r ≡ layoutColumn self (Wr e) ⌝ }
+    {
+        self.column_at(blocks::WR, e)
+    }
 
-pub fn col_w(l: SocWrLayout, i: usize) -> u32
-    requires { ⌜ InRange l ⌝ }
-    requires { ⌜ i < l .n ⌝ }
-    ensures { λ r. ⌜ r ≡ layoutColumn l (W i) ⌝ }
-{
-    (2 * l.k + i) as u32
-}
+    pub fn wi_column(self, e: usize) -> u32
+        requires { ⌜ InRange self ⌝ }
+        requires { ⌜ e ≤ self .m ⌝ }
+        ensures { λ r. ⌜ r ≡ layoutColumn self (Wi e) ⌝ }
+    {
+        self.column_at(blocks::WI, e)
+    }
 
-pub fn col_wr(l: SocWrLayout, e: usize) -> u32
-    requires { ⌜ InRange l ⌝ }
-    requires { ⌜ e < l .m ⌝ }
-    ensures { λ r. ⌜ r ≡ layoutColumn l (Wr e) ⌝ }
-{
-    (2 * l.k + l.n + e) as u32
-}
+    pub fn pf_column(self, e: usize) -> u32
+        requires { ⌜ InRange self ⌝ }
+        requires { ⌜ e ≤ self .m ⌝ }
+        ensures { λ r. ⌜ r ≡ layoutColumn self (Pf e) ⌝ }
+    {
+        self.column_at(blocks::PF, e)
+    }
 
-pub fn col_wi(l: SocWrLayout, e: usize) -> u32
-    requires { ⌜ InRange l ⌝ }
-    requires { ⌜ e < l .m ⌝ }
-    ensures { λ r. ⌜ r ≡ layoutColumn l (Wi e) ⌝ }
-{
-    (2 * l.k + l.n + l.m + e) as u32
-}
+    pub fn pt_column(self, e: usize) -> u32
+        requires { ⌜ InRange self ⌝ }
+        requires { ⌜ e ≤ self .m ⌝ }
+        ensures { λ r. ⌜ r ≡ layoutColumn self (Pt e) ⌝ }
+    {
+        self.column_at(blocks::PT, e)
+    }
 
-pub fn col_pf(l: SocWrLayout, e: usize) -> u32
-    requires { ⌜ InRange l ⌝ }
-    requires { ⌜ e < l .m ⌝ }
-    ensures { λ r. ⌜ r ≡ layoutColumn l (Pf e) ⌝ }
-{
-    (2 * l.k + l.n + 2 * l.m + e) as u32
-}
+    pub fn qf_column(self, e: usize) -> u32
+        requires { ⌜ InRange self ⌝ }
+        requires { ⌜ e ≤ self .m ⌝ }
+        ensures { λ r. ⌜ r ≡ layoutColumn self (Qf e) ⌝ }
+    {
+        self.column_at(blocks::QF, e)
+    }
 
-pub fn col_pt(l: SocWrLayout, e: usize) -> u32
-    requires { ⌜ InRange l ⌝ }
-    requires { ⌜ e < l .m ⌝ }
-    ensures { λ r. ⌜ r ≡ layoutColumn l (Pt e) ⌝ }
-{
-    (2 * l.k + l.n + 3 * l.m + e) as u32
-}
+    pub fn qt_column(self, e: usize) -> u32
+        requires { ⌜ InRange self ⌝ }
+        requires { ⌜ e ≤ self .m ⌝ }
+        ensures { λ r. ⌜ r ≡ layoutColumn self (Qt e) ⌝ }
+    {
+        self.column_at(blocks::QT, e)
+    }
 
-pub fn col_qf(l: SocWrLayout, e: usize) -> u32
-    requires { ⌜ InRange l ⌝ }
-    requires { ⌜ e < l .m ⌝ }
-    ensures { λ r. ⌜ r ≡ layoutColumn l (Qf e) ⌝ }
-{
-    (2 * l.k + l.n + 4 * l.m + e) as u32
-}
+    // The cost column that has so many before it.
+    pub fn cost_column(self, rank: usize) -> u32
+        requires { ⌜ InRange self ⌝ }
+        requires { ⌜ rank ≤ self .«cost_columns» ⌝ }
+        ensures { λ r. ⌜ r ≡ layoutColumn self (CostOf rank) ⌝ }
+    {
+        self.column_at(blocks::COST, rank)
+    }
 
-pub fn col_qt(l: SocWrLayout, e: usize) -> u32
-    requires { ⌜ InRange l ⌝ }
-    requires { ⌜ e < l .m ⌝ }
-    ensures { λ r. ⌜ r ≡ layoutColumn l (Qt e) ⌝ }
-{
-    (2 * l.k + l.n + 5 * l.m + e) as u32
-}
+    pub fn pbal_row(self, i: usize) -> u32
+        requires { ⌜ InRange self ⌝ }
+        requires { ⌜ i ≤ self .n ⌝ }
+        ensures { λ r. ⌜ r ≡ layoutRow self (Pbal i) ⌝ }
+    {
+        self.row_at(blocks::PBAL, i)
+    }
 
-pub fn r_pbal(l: SocWrLayout, i: usize) -> u32
-    requires { ⌜ InRange l ⌝ }
-    requires { ⌜ i < l .n ⌝ }
-    ensures { λ r. ⌜ r ≡ layoutRow l (Pbal i) ⌝ }
-{
-    (i) as u32
-}
+    pub fn qbal_row(self, i: usize) -> u32
+        requires { ⌜ InRange self ⌝ }
+        requires { ⌜ i ≤ self .n ⌝ }
+        ensures { λ r. ⌜ r ≡ layoutRow self (Qbal i) ⌝ }
+    {
+        self.row_at(blocks::QBAL, i)
+    }
 
-pub fn r_qbal(l: SocWrLayout, i: usize) -> u32
-    requires { ⌜ InRange l ⌝ }
-    requires { ⌜ i < l .n ⌝ }
-    ensures { λ r. ⌜ r ≡ layoutRow l (Qbal i) ⌝ }
-{
-    (l.n + i) as u32
-}
+    pub fn ohm_pf_row(self, e: usize) -> u32
+        requires { ⌜ InRange self ⌝ }
+        requires { ⌜ e ≤ self .m ⌝ }
+        ensures { λ r. ⌜ r ≡ layoutRow self (OhmPf e) ⌝ }
+    {
+        self.row_at(blocks::OHM_PF, e)
+    }
 
-pub fn r_ohm_pf(l: SocWrLayout, e: usize) -> u32
-    requires { ⌜ InRange l ⌝ }
-    requires { ⌜ e < l .m ⌝ }
-    ensures { λ r. ⌜ r ≡ layoutRow l (OhmPf e) ⌝ }
-{
-    (2 * l.n + e) as u32
-}
+    pub fn ohm_qf_row(self, e: usize) -> u32
+        requires { ⌜ InRange self ⌝ }
+        requires { ⌜ e ≤ self .m ⌝ }
+        ensures { λ r. ⌜ r ≡ layoutRow self (OhmQf e) ⌝ }
+    {
+        self.row_at(blocks::OHM_QF, e)
+    }
 
-pub fn r_ohm_qf(l: SocWrLayout, e: usize) -> u32
-    requires { ⌜ InRange l ⌝ }
-    requires { ⌜ e < l .m ⌝ }
-    ensures { λ r. ⌜ r ≡ layoutRow l (OhmQf e) ⌝ }
-{
-    (2 * l.n + l.m + e) as u32
-}
+    pub fn ohm_pt_row(self, e: usize) -> u32
+        requires { ⌜ InRange self ⌝ }
+        requires { ⌜ e ≤ self .m ⌝ }
+        ensures { λ r. ⌜ r ≡ layoutRow self (OhmPt e) ⌝ }
+    {
+        self.row_at(blocks::OHM_PT, e)
+    }
 
-pub fn r_ohm_pt(l: SocWrLayout, e: usize) -> u32
-    requires { ⌜ InRange l ⌝ }
-    requires { ⌜ e < l .m ⌝ }
-    ensures { λ r. ⌜ r ≡ layoutRow l (OhmPt e) ⌝ }
-{
-    (2 * l.n + 2 * l.m + e) as u32
-}
+    pub fn ohm_qt_row(self, e: usize) -> u32
+        requires { ⌜ InRange self ⌝ }
+        requires { ⌜ e ≤ self .m ⌝ }
+        ensures { λ r. ⌜ r ≡ layoutRow self (OhmQt e) ⌝ }
+    {
+        self.row_at(blocks::OHM_QT, e)
+    }
 
-pub fn r_ohm_qt(l: SocWrLayout, e: usize) -> u32
-    requires { ⌜ InRange l ⌝ }
-    requires { ⌜ e < l .m ⌝ }
-    ensures { λ r. ⌜ r ≡ layoutRow l (OhmQt e) ⌝ }
-{
-    (2 * l.n + 3 * l.m + e) as u32
-}
+    pub fn wub_row(self, i: usize) -> u32
+        requires { ⌜ InRange self ⌝ }
+        requires { ⌜ i ≤ self .n ⌝ }
+        ensures { λ r. ⌜ r ≡ layoutRow self (Wub i) ⌝ }
+    {
+        self.row_at(blocks::WUB, i)
+    }
 
-pub fn r_wub(l: SocWrLayout, i: usize) -> u32
-    requires { ⌜ InRange l ⌝ }
-    requires { ⌜ i < l .n ⌝ }
-    ensures { λ r. ⌜ r ≡ layoutRow l (Wub i) ⌝ }
-{
-    (4 * l.m + 2 * l.n + i) as u32
-}
+    pub fn wlb_row(self, i: usize) -> u32
+        requires { ⌜ InRange self ⌝ }
+        requires { ⌜ i ≤ self .n ⌝ }
+        ensures { λ r. ⌜ r ≡ layoutRow self (Wlb i) ⌝ }
+    {
+        self.row_at(blocks::WLB, i)
+    }
 
-pub fn r_wlb(l: SocWrLayout, i: usize) -> u32
-    requires { ⌜ InRange l ⌝ }
-    requires { ⌜ i < l .n ⌝ }
-    ensures { λ r. ⌜ r ≡ layoutRow l (Wlb i) ⌝ }
-{
-    (4 * l.m + 3 * l.n + i) as u32
-}
+    pub fn pgub_row(self, g: usize) -> u32
+        requires { ⌜ InRange self ⌝ }
+        requires { ⌜ g ≤ self .k ⌝ }
+        ensures { λ r. ⌜ r ≡ layoutRow self (Pgub g) ⌝ }
+    {
+        self.row_at(blocks::PGUB, g)
+    }
 
-pub fn r_pgub(l: SocWrLayout, g: usize) -> u32
-    requires { ⌜ InRange l ⌝ }
-    requires { ⌜ g < l .k ⌝ }
-    ensures { λ r. ⌜ r ≡ layoutRow l (Pgub g) ⌝ }
-{
-    (4 * l.m + 4 * l.n + g) as u32
-}
+    pub fn pglb_row(self, g: usize) -> u32
+        requires { ⌜ InRange self ⌝ }
+        requires { ⌜ g ≤ self .k ⌝ }
+        ensures { λ r. ⌜ r ≡ layoutRow self (Pglb g) ⌝ }
+    {
+        self.row_at(blocks::PGLB, g)
+    }
 
-pub fn r_pglb(l: SocWrLayout, g: usize) -> u32
-    requires { ⌜ InRange l ⌝ }
-    requires { ⌜ g < l .k ⌝ }
-    ensures { λ r. ⌜ r ≡ layoutRow l (Pglb g) ⌝ }
-{
-    (4 * l.m + 4 * l.n + l.k + g) as u32
-}
+    pub fn qgub_row(self, g: usize) -> u32
+        requires { ⌜ InRange self ⌝ }
+        requires { ⌜ g ≤ self .k ⌝ }
+        ensures { λ r. ⌜ r ≡ layoutRow self (Qgub g) ⌝ }
+    {
+        self.row_at(blocks::QGUB, g)
+    }
 
-pub fn r_qgub(l: SocWrLayout, g: usize) -> u32
-    requires { ⌜ InRange l ⌝ }
-    requires { ⌜ g < l .k ⌝ }
-    ensures { λ r. ⌜ r ≡ layoutRow l (Qgub g) ⌝ }
-{
-    (4 * l.m + 4 * l.n + 2 * l.k + g) as u32
-}
+    pub fn qglb_row(self, g: usize) -> u32
+        requires { ⌜ InRange self ⌝ }
+        requires { ⌜ g ≤ self .k ⌝ }
+        ensures { λ r. ⌜ r ≡ layoutRow self (Qglb g) ⌝ }
+    {
+        self.row_at(blocks::QGLB, g)
+    }
 
-pub fn r_qglb(l: SocWrLayout, g: usize) -> u32
-    requires { ⌜ InRange l ⌝ }
-    requires { ⌜ g < l .k ⌝ }
-    ensures { λ r. ⌜ r ≡ layoutRow l (Qglb g) ⌝ }
-{
-    (4 * l.m + 4 * l.n + 3 * l.k + g) as u32
-}
+    pub fn angub_row(self, e: usize) -> u32
+        requires { ⌜ InRange self ⌝ }
+        requires { ⌜ e ≤ self .m ⌝ }
+        ensures { λ r. ⌜ r ≡ layoutRow self (Angub e) ⌝ }
+    {
+        self.row_at(blocks::ANGUB, e)
+    }
 
-pub fn r_angub(l: SocWrLayout, e: usize) -> u32
-    requires { ⌜ InRange l ⌝ }
-    requires { ⌜ e < l .m ⌝ }
-    ensures { λ r. ⌜ r ≡ layoutRow l (Angub e) ⌝ }
-{
-    (4 * l.m + 4 * l.n + 4 * l.k + e) as u32
-}
+    pub fn anglb_row(self, e: usize) -> u32
+        requires { ⌜ InRange self ⌝ }
+        requires { ⌜ e ≤ self .m ⌝ }
+        ensures { λ r. ⌜ r ≡ layoutRow self (Anglb e) ⌝ }
+    {
+        self.row_at(blocks::ANGLB, e)
+    }
 
-pub fn r_anglb(l: SocWrLayout, e: usize) -> u32
-    requires { ⌜ InRange l ⌝ }
-    requires { ⌜ e < l .m ⌝ }
-    ensures { λ r. ⌜ r ≡ layoutRow l (Anglb e) ⌝ }
-{
-    (5 * l.m + 4 * l.n + 4 * l.k + e) as u32
-}
+    // The row of the segment that has so many before it, those of its own generator included.
+    pub fn segment_row(self, position: usize) -> u32
+        requires { ⌜ InRange self ⌝ }
+        requires { ⌜ position ≤ self .s ⌝ }
+        ensures { λ r. ⌜ r ≡ layoutRow self (Segment position 0) ⌝ }
+    {
+        self.row_at(blocks::SEGMENT, position)
+    }
 
-// The first of a branch's four rows.
-pub fn r_jabr(l: SocWrLayout, e: usize) -> u32
-    requires { ⌜ InRange l ⌝ }
-    requires { ⌜ e < l .m ⌝ }
-    ensures { λ r. ⌜ r ≡ layoutRow l (Jabr e 0) ⌝ }
-{
-    (4 * l.n + 4 * l.k + 6 * l.m + l.s + 4 * e) as u32
+    // A row of a branch's cone of four.
+    pub fn jabr_row(self, e: usize, place: usize) -> u32
+        requires { ⌜ InRange self ⌝ }
+        requires { ⌜ (e ≤ self .m) × (place < 4) ⌝ }
+        ensures { λ r. ⌜ r ≡ layoutRow self (Jabr e place) ⌝ }
+    {
+        self.row_start(blocks::JABR) + (4 * e + place) as u32
+    }
+
+    // A row of the two cones of three of the limited branch that has so many before it.
+    pub fn thermal_row(self, rank: usize, place: usize) -> u32
+        requires { ⌜ InRange self ⌝ }
+        requires { ⌜ (rank ≤ self .t) × (place < 6) ⌝ }
+        ensures { λ r. ⌜ r ≡ layoutRow self (Thermal rank place) ⌝ }
+    {
+        self.row_start(blocks::THERMAL) + (6 * rank + place) as u32
+    }
 }

@@ -3,7 +3,6 @@ use crate::CheckedLayout;
 use crate::LayoutAnswer;
 use crate::Lookup;
 use crate::SocWrLayout;
-use crate::inner;
 use crate::inner::blocks;
 use refusals::Checked;
 use refusals::Refusal;
@@ -12,8 +11,8 @@ use refusals::or_else;
 use refusals::refuse_unless;
 ghost use mathlib.Core.Path.{_≡_};
 ghost use Prim.Native.Nat.{_<_};
-ghost use Rattle.numbering.specs.Blocks.{key, before, total};
-ghost use Rattle.numbering.specs.Layout.{countedOf, layoutCause, layoutColumns, layoutRows, nEqOf, nIneqOf};
+ghost use Rattle.numbering.specs.Blocks.{key};
+ghost use Rattle.numbering.specs.Layout.{countedOf, layoutCause, layoutColumns, layoutRows, layoutRow, nEqOf, nIneqOf, nvarOf, nconOf};
 ghost use Rattle.numbering.specs.Lookups.{afterCheck, inLayout, columnIn, rowIn, sizeIn, layoutAnswer, newLayout, LaidOut};
 ghost use Rattle.numbering.specs.declared.Lookup.the-variants.{Absent};
 ghost use Rattle.numbering.specs.declared.ColumnName.the-variants.{Pg, Qg, W, Wr, Wi, Pf, Pt, Qf, Qt};
@@ -29,11 +28,25 @@ pub fn refused(check: Checked) -> Lookup
     }
 }
 
+// The layout of nothing.
+fn empty() -> SocWrLayout
+    ensures { λ r. ⌜ r ≡ countedOf 0 0 0 0 ⌝ }
+{
+    SocWrLayout {
+        n: 0,
+        m: 0,
+        k: 0,
+        s: 0,
+        t: 0,
+        cost_columns: 0,
+    }
+}
+
 fn no_layout(check: Checked) -> LayoutAnswer
     ensures { λ r. ⌜ r ≡ layoutAnswer check (countedOf 0 0 0 0) ⌝ }
 {
     match check {
-        Checked::Accepted => LayoutAnswer::Layout(inner::counted(0, 0, 0, 0)),
+        Checked::Accepted => LayoutAnswer::Layout(empty()),
         Checked::Refused(cause) => LayoutAnswer::Refused(cause),
     }
 }
@@ -99,7 +112,7 @@ impl SocWrLayout {
         if sizes[block] <= i {
             return Lookup::Refused(Refusal::PastEnd(i as u64));
         }
-        Lookup::Number((blocks::start_of(&sizes, block) + i) as u32)
+        Lookup::Number(self.column_at(block, i))
     }
 
     // A row of a block whose records have one row each.
@@ -115,145 +128,145 @@ impl SocWrLayout {
         if sizes[block] <= i {
             return Lookup::Refused(Refusal::PastEnd(i as u64));
         }
-        Lookup::Number((blocks::start_of(&sizes, block) + i) as u32)
+        Lookup::Number(self.row_at(block, i))
     }
 
     pub fn col_pg(self, g: usize) -> Lookup
         ensures { λ r. ⌜ r ≡ columnIn self (Pg g) ⌝ }
     {
-        self.plain_column(0, g)
+        self.plain_column(blocks::PG, g)
     }
 
     pub fn col_qg(self, g: usize) -> Lookup
         ensures { λ r. ⌜ r ≡ columnIn self (Qg g) ⌝ }
     {
-        self.plain_column(1, g)
+        self.plain_column(blocks::QG, g)
     }
 
     pub fn col_w(self, i: usize) -> Lookup
         ensures { λ r. ⌜ r ≡ columnIn self (W i) ⌝ }
     {
-        self.plain_column(2, i)
+        self.plain_column(blocks::W, i)
     }
 
     pub fn col_wr(self, e: usize) -> Lookup
         ensures { λ r. ⌜ r ≡ columnIn self (Wr e) ⌝ }
     {
-        self.plain_column(3, e)
+        self.plain_column(blocks::WR, e)
     }
 
     pub fn col_wi(self, e: usize) -> Lookup
         ensures { λ r. ⌜ r ≡ columnIn self (Wi e) ⌝ }
     {
-        self.plain_column(4, e)
+        self.plain_column(blocks::WI, e)
     }
 
     pub fn col_pf(self, e: usize) -> Lookup
         ensures { λ r. ⌜ r ≡ columnIn self (Pf e) ⌝ }
     {
-        self.plain_column(5, e)
+        self.plain_column(blocks::PF, e)
     }
 
     pub fn col_pt(self, e: usize) -> Lookup
         ensures { λ r. ⌜ r ≡ columnIn self (Pt e) ⌝ }
     {
-        self.plain_column(6, e)
+        self.plain_column(blocks::PT, e)
     }
 
     pub fn col_qf(self, e: usize) -> Lookup
         ensures { λ r. ⌜ r ≡ columnIn self (Qf e) ⌝ }
     {
-        self.plain_column(7, e)
+        self.plain_column(blocks::QF, e)
     }
 
     pub fn col_qt(self, e: usize) -> Lookup
         ensures { λ r. ⌜ r ≡ columnIn self (Qt e) ⌝ }
     {
-        self.plain_column(8, e)
+        self.plain_column(blocks::QT, e)
     }
 
     pub fn r_pbal(self, i: usize) -> Lookup
         ensures { λ r. ⌜ r ≡ rowIn self (Pbal i) ⌝ }
     {
-        self.plain_row(0, i)
+        self.plain_row(blocks::PBAL, i)
     }
 
     pub fn r_qbal(self, i: usize) -> Lookup
         ensures { λ r. ⌜ r ≡ rowIn self (Qbal i) ⌝ }
     {
-        self.plain_row(1, i)
+        self.plain_row(blocks::QBAL, i)
     }
 
     pub fn r_ohm_pf(self, e: usize) -> Lookup
         ensures { λ r. ⌜ r ≡ rowIn self (OhmPf e) ⌝ }
     {
-        self.plain_row(2, e)
+        self.plain_row(blocks::OHM_PF, e)
     }
 
     pub fn r_ohm_qf(self, e: usize) -> Lookup
         ensures { λ r. ⌜ r ≡ rowIn self (OhmQf e) ⌝ }
     {
-        self.plain_row(3, e)
+        self.plain_row(blocks::OHM_QF, e)
     }
 
     pub fn r_ohm_pt(self, e: usize) -> Lookup
         ensures { λ r. ⌜ r ≡ rowIn self (OhmPt e) ⌝ }
     {
-        self.plain_row(4, e)
+        self.plain_row(blocks::OHM_PT, e)
     }
 
     pub fn r_ohm_qt(self, e: usize) -> Lookup
         ensures { λ r. ⌜ r ≡ rowIn self (OhmQt e) ⌝ }
     {
-        self.plain_row(5, e)
+        self.plain_row(blocks::OHM_QT, e)
     }
 
     pub fn r_wub(self, i: usize) -> Lookup
         ensures { λ r. ⌜ r ≡ rowIn self (Wub i) ⌝ }
     {
-        self.plain_row(6, i)
+        self.plain_row(blocks::WUB, i)
     }
 
     pub fn r_wlb(self, i: usize) -> Lookup
         ensures { λ r. ⌜ r ≡ rowIn self (Wlb i) ⌝ }
     {
-        self.plain_row(7, i)
+        self.plain_row(blocks::WLB, i)
     }
 
     pub fn r_pgub(self, g: usize) -> Lookup
         ensures { λ r. ⌜ r ≡ rowIn self (Pgub g) ⌝ }
     {
-        self.plain_row(8, g)
+        self.plain_row(blocks::PGUB, g)
     }
 
     pub fn r_pglb(self, g: usize) -> Lookup
         ensures { λ r. ⌜ r ≡ rowIn self (Pglb g) ⌝ }
     {
-        self.plain_row(9, g)
+        self.plain_row(blocks::PGLB, g)
     }
 
     pub fn r_qgub(self, g: usize) -> Lookup
         ensures { λ r. ⌜ r ≡ rowIn self (Qgub g) ⌝ }
     {
-        self.plain_row(10, g)
+        self.plain_row(blocks::QGUB, g)
     }
 
     pub fn r_qglb(self, g: usize) -> Lookup
         ensures { λ r. ⌜ r ≡ rowIn self (Qglb g) ⌝ }
     {
-        self.plain_row(11, g)
+        self.plain_row(blocks::QGLB, g)
     }
 
     pub fn r_angub(self, e: usize) -> Lookup
         ensures { λ r. ⌜ r ≡ rowIn self (Angub e) ⌝ }
     {
-        self.plain_row(12, e)
+        self.plain_row(blocks::ANGUB, e)
     }
 
     pub fn r_anglb(self, e: usize) -> Lookup
         ensures { λ r. ⌜ r ≡ rowIn self (Anglb e) ⌝ }
     {
-        self.plain_row(13, e)
+        self.plain_row(blocks::ANGLB, e)
     }
 
     // The first of a branch's four rows.
@@ -267,7 +280,7 @@ impl SocWrLayout {
         if self.m <= e {
             return Lookup::Refused(Refusal::PastEnd(e as u64));
         }
-        Lookup::Number(inner::r_jabr(self, e))
+        Lookup::Number(self.jabr_row(e, 0))
     }
 
     // The rows of the zero cone, and of the nonnegative cone.
@@ -278,7 +291,7 @@ impl SocWrLayout {
         if is_refused(cause) {
             return refused(cause);
         }
-        Lookup::Number(inner::n_eq(self))
+        Lookup::Number(self.zero_rows())
     }
 
     pub fn n_ineq(self) -> Lookup
@@ -288,38 +301,38 @@ impl SocWrLayout {
         if is_refused(cause) {
             return refused(cause);
         }
-        Lookup::Number(inner::n_ineq(self))
+        Lookup::Number(self.nonnegative_rows())
     }
 
     // The columns, and the rows.
     pub fn nvar(self) -> Lookup
-        ensures { λ r. ⌜ r ≡ sizeIn self (total (layoutColumns self)) ⌝ }
+        ensures { λ r. ⌜ r ≡ sizeIn self (nvarOf self) ⌝ }
     {
         let cause = self.cause();
         if is_refused(cause) {
             return refused(cause);
         }
-        Lookup::Number(inner::nvar(self))
+        Lookup::Number(self.column_count())
     }
 
     pub fn ncon(self) -> Lookup
-        ensures { λ r. ⌜ r ≡ sizeIn self (total (layoutRows self)) ⌝ }
+        ensures { λ r. ⌜ r ≡ sizeIn self (nconOf self) ⌝ }
     {
         let cause = self.cause();
         if is_refused(cause) {
             return refused(cause);
         }
-        Lookup::Number(inner::ncon(self))
+        Lookup::Number(self.row_count())
     }
 
     // The first row of the second-order cones.
     pub fn soc_base(self) -> Lookup
-        ensures { λ r. ⌜ r ≡ sizeIn self (before (layoutRows self) 15) ⌝ }
+        ensures { λ r. ⌜ r ≡ sizeIn self (layoutRow self (Jabr 0 0)) ⌝ }
     {
         let cause = self.cause();
         if is_refused(cause) {
             return refused(cause);
         }
-        Lookup::Number(inner::soc_base(self))
+        Lookup::Number(self.jabr_row(0, 0))
     }
 }

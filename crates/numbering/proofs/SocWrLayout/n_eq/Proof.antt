@@ -11,13 +11,13 @@ returns : tie.Need-returns
 returns c =
     stopped-at _ (c .refused .ensures) (c .before .before .before .cause .ensures) (sym (c .before .before .is-refused .ensures) ∙ c .before .if1 .taken)
 
-n-eq-requires : tie.Need-n-eq-requires
-n-eq-requires c κs = in-range _ (gone-on (c .before .before .cause .ensures) (sym (c .before .is-refused .ensures) ∙ c .if1 .left))
+zero-rows-requires : tie.Need-zero-rows-requires
+zero-rows-requires c κs = in-range _ (gone-on (c .before .before .cause .ensures) (sym (c .before .is-refused .ensures) ∙ c .if1 .left))
 
 returns-2 : tie.Need-returns-2
 returns-2 c =
-    ap Number (c .n-eq .ensures)
+    ap Number (c .zero-rows .ensures)
     ∙ answered _ (gone-on (c .before .before .before .cause .ensures) (sym (c .before .before .is-refused .ensures) ∙ c .before .if1 .left))
 
 pub n-eq-spec : {M : Type 1} → statement M
-n-eq-spec = tie.close (tie.spec (λ c κs. search needs) (λ c κs. search needs) (λ c κs. search needs) returns n-eq-requires returns-2)
+n-eq-spec = tie.close (tie.spec (λ c κs. search needs) (λ c κs. search needs) (λ c κs. search needs) returns zero-rows-requires returns-2)

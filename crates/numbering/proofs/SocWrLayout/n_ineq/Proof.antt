@@ -11,13 +11,13 @@ returns : tie.Need-returns
 returns c =
     stopped-at _ (c .refused .ensures) (c .before .before .before .cause .ensures) (sym (c .before .before .is-refused .ensures) ∙ c .before .if1 .taken)
 
-n-ineq-requires : tie.Need-n-ineq-requires
-n-ineq-requires c κs = in-range _ (gone-on (c .before .before .cause .ensures) (sym (c .before .is-refused .ensures) ∙ c .if1 .left))
+nonnegative-rows-requires : tie.Need-nonnegative-rows-requires
+nonnegative-rows-requires c κs = in-range _ (gone-on (c .before .before .cause .ensures) (sym (c .before .is-refused .ensures) ∙ c .if1 .left))
 
 returns-2 : tie.Need-returns-2
 returns-2 c =
-    ap Number (c .n-ineq .ensures)
+    ap Number (c .nonnegative-rows .ensures)
     ∙ answered _ (gone-on (c .before .before .before .cause .ensures) (sym (c .before .before .is-refused .ensures) ∙ c .before .if1 .left))
 
 pub n-ineq-spec : {M : Type 1} → statement M
-n-ineq-spec = tie.close (tie.spec (λ c κs. search needs) (λ c κs. search needs) (λ c κs. search needs) returns n-ineq-requires returns-2)
+n-ineq-spec = tie.close (tie.spec (λ c κs. search needs) (λ c κs. search needs) (λ c κs. search needs) returns nonnegative-rows-requires returns-2)

@@ -11,13 +11,13 @@ returns : tie.Need-returns
 returns c =
     stopped-at _ (c .refused .ensures) (c .before .before .before .cause .ensures) (sym (c .before .before .is-refused .ensures) ∙ c .before .if1 .taken)
 
-ncon-requires : tie.Need-ncon-requires
-ncon-requires c κs = in-range _ (gone-on (c .before .before .cause .ensures) (sym (c .before .is-refused .ensures) ∙ c .if1 .left))
+row-count-requires : tie.Need-row-count-requires
+row-count-requires c κs = in-range _ (gone-on (c .before .before .cause .ensures) (sym (c .before .is-refused .ensures) ∙ c .if1 .left))
 
 returns-2 : tie.Need-returns-2
 returns-2 c =
-    ap Number (c .ncon .ensures)
+    ap Number (c .row-count .ensures)
     ∙ answered _ (gone-on (c .before .before .before .cause .ensures) (sym (c .before .before .is-refused .ensures) ∙ c .before .if1 .left))
 
 pub ncon-spec : {M : Type 1} → statement M
-ncon-spec = tie.close (tie.spec (λ c κs. search needs) (λ c κs. search needs) (λ c κs. search needs) returns ncon-requires returns-2)
+ncon-spec = tie.close (tie.spec (λ c κs. search needs) (λ c κs. search needs) (λ c κs. search needs) returns row-count-requires returns-2)

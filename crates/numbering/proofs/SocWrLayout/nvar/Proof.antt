@@ -11,13 +11,13 @@ returns : tie.Need-returns
 returns c =
     stopped-at _ (c .refused .ensures) (c .before .before .before .cause .ensures) (sym (c .before .before .is-refused .ensures) ∙ c .before .if1 .taken)
 
-nvar-requires : tie.Need-nvar-requires
-nvar-requires c κs = in-range _ (gone-on (c .before .before .cause .ensures) (sym (c .before .is-refused .ensures) ∙ c .if1 .left))
+column-count-requires : tie.Need-column-count-requires
+column-count-requires c κs = in-range _ (gone-on (c .before .before .cause .ensures) (sym (c .before .is-refused .ensures) ∙ c .if1 .left))
 
 returns-2 : tie.Need-returns-2
 returns-2 c =
-    ap Number (c .nvar .ensures)
+    ap Number (c .column-count .ensures)
     ∙ answered _ (gone-on (c .before .before .before .cause .ensures) (sym (c .before .before .is-refused .ensures) ∙ c .before .if1 .left))
 
 pub nvar-spec : {M : Type 1} → statement M
-nvar-spec = tie.close (tie.spec (λ c κs. search needs) (λ c κs. search needs) (λ c κs. search needs) returns nvar-requires returns-2)
+nvar-spec = tie.close (tie.spec (λ c κs. search needs) (λ c κs. search needs) (λ c κs. search needs) returns column-count-requires returns-2)
