@@ -24,7 +24,7 @@ use Rattle.numbering.specs.Laid.{netOf, Laid}
 use Rattle.numbering.specs.declared.SocWrLayout.{SocWrLayout}
 use Rattle.numbering.proofs.Laid.{limits-are}
 use Rattle.kkt.specs.Kkt.{kkt}
-use Rattle.kkt.proofs.Demand3.{kkt-places}
+use Rattle.demand3.proofs.Demand3.{kkt-places}
 use Rattle.solution.specs.Lengths.{solutionCause}
 use Rattle.solution.proofs.Lengths.{both-long}
 use Rattle.rows.specs.Program.{inequalities}

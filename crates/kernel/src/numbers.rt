@@ -67,10 +67,10 @@ fn sizes_of(l: SocWrLayout) -> Sizes
     Sizes {
         number: 0,
         value: 0,
-        n_eq: inner::n_eq(l) as u64,
-        n_ineq: inner::n_ineq(l) as u64,
-        nvar: inner::nvar(l) as u64,
-        ncon: inner::ncon(l) as u64,
+        n_eq: l.zero_rows() as u64,
+        n_ineq: l.nonnegative_rows() as u64,
+        nvar: l.column_count() as u64,
+        ncon: l.row_count() as u64,
         t: l.t as u64,
         cost_columns: l.cost_columns as u64,
     }

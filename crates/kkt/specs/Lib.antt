@@ -1,2 +1,1 @@
 pub mod Kkt
-pub mod Demand3

@@ -121,7 +121,7 @@ pub fn column_name(n: usize, m: usize, k: usize, s: usize, bytes: &[u8], p: usiz
         return no_column(check);
     }
     let l = inner::layout(n, m, k, s, bytes);
-    if inner::nvar(l) as usize <= p {
+    if l.column_count() as usize <= p {
         return ColumnAnswer::Refused(Refusal::PastEnd(p as u64));
     }
     let x = column_key_at(n, m, k, s, bytes, l, p);
@@ -136,7 +136,7 @@ pub fn row_name(n: usize, m: usize, k: usize, s: usize, bytes: &[u8], p: usize) 
         return no_row(check);
     }
     let l = inner::layout(n, m, k, s, bytes);
-    if inner::ncon(l) as usize <= p {
+    if l.row_count() as usize <= p {
         return RowAnswer::Refused(Refusal::PastEnd(p as u64));
     }
     let x = row_key_at(n, m, k, s, bytes, l, p);

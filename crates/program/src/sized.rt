@@ -20,7 +20,7 @@ pub(crate) fn put_b(b: &mut [f64], l: SocWrLayout, bytes: &[u8]) -> Written
     requires { ⌜ Laid l (now bytes) ⌝ }
     ensures { λ r. ⌜ FloatsWritten Accepted (rightSide (netOf l (now (bytes .entry)))) (now (b .entry)) (now (b .exit)) r ⌝ }
 {
-    let need = numbering::inner::ncon(l) as usize;
+    let need = l.row_count() as usize;
     if b.len() < need {
         return Written::Refused(Refusal::OutputTooShort(need as u64));
     }
@@ -32,7 +32,7 @@ pub(crate) fn put_q(q: &mut [f64], l: SocWrLayout, bytes: &[u8]) -> Written
     requires { ⌜ Laid l (now bytes) ⌝ }
     ensures { λ r. ⌜ FloatsWritten Accepted (linear (netOf l (now (bytes .entry)))) (now (q .entry)) (now (q .exit)) r ⌝ }
 {
-    let need = numbering::inner::nvar(l) as usize;
+    let need = l.column_count() as usize;
     if q.len() < need {
         return Written::Refused(Refusal::OutputTooShort(need as u64));
     }
@@ -50,7 +50,7 @@ pub(crate) fn put_p(
     requires { ⌜ Laid l (now bytes) ⌝ }
     ensures { λ r. ⌜ ColumnsWritten Accepted (quadraticMatrix (netOf l (now (bytes .entry)))) (now (starts .entry)) (now (rows .entry)) (now (values .entry)) (now (starts .exit)) (now (rows .exit)) (now (values .exit)) r ⌝ }
 {
-    let need = numbering::inner::nvar(l) as usize + 1;
+    let need = l.column_count() as usize + 1;
     if starts.len() < need {
         return Written::Refused(Refusal::OutputTooShort(need as u64));
     }
@@ -127,7 +127,7 @@ pub(crate) fn put_a(
     requires { ⌜ Laid l (now bytes) ⌝ }
     ensures { λ r. ⌜ ColumnsWritten Accepted (matrix (netOf l (now (bytes .entry)))) (now (starts .entry)) (now (rows .entry)) (now (values .entry)) (now (starts .exit)) (now (rows .exit)) (now (values .exit)) r ⌝ }
 {
-    let need = numbering::inner::nvar(l) as usize + 1;
+    let need = l.column_count() as usize + 1;
     if starts.len() < need {
         return Written::Refused(Refusal::OutputTooShort(need as u64));
     }

@@ -1,7 +1,5 @@
 // Number 6 on the layout of accepted records, for an x and a z of given lengths.
 use numbering::SocWrLayout;
-use numbering::inner::ncon;
-use numbering::inner::nvar;
 use refusals::Checked;
 use refusals::Refusal;
 use refusals::or_else;
@@ -14,14 +12,14 @@ pub fn x_cause(l: SocWrLayout, bytes: &[u8], xs: usize) -> Checked
     requires { ⌜ Laid l (now bytes) ⌝ }
     ensures { λ r. ⌜ r ≡ xCause (netOf l (now (bytes .entry))) xs ⌝ }
 {
-    refuse_unless(xs == nvar(l) as usize, Refusal::SolutionLength(0))
+    refuse_unless(xs == l.column_count() as usize, Refusal::SolutionLength(0))
 }
 
 pub fn z_cause(l: SocWrLayout, bytes: &[u8], zs: usize) -> Checked
     requires { ⌜ Laid l (now bytes) ⌝ }
     ensures { λ r. ⌜ r ≡ zCause (netOf l (now (bytes .entry))) zs ⌝ }
 {
-    refuse_unless(zs == ncon(l) as usize, Refusal::SolutionLength(1))
+    refuse_unless(zs == l.row_count() as usize, Refusal::SolutionLength(1))
 }
 
 // Of both, x first.

@@ -4,14 +4,6 @@ use branch::Series;
 use branch::inner::series;
 use interface::GB;
 use numbering::SocWrLayout;
-use numbering::inner::col_w;
-use numbering::inner::col_wi;
-use numbering::inner::col_wr;
-use numbering::inner::nvar;
-use numbering::inner::r_ohm_pf;
-use numbering::inner::r_ohm_pt;
-use numbering::inner::r_ohm_qf;
-use numbering::inner::r_ohm_qt;
 use records::inner::br_from;
 use records::inner::br_to;
 ghost use mathlib.Core.Path.{_≡_};
@@ -48,10 +40,10 @@ fn ohm_rows(l: SocWrLayout, e: usize) -> OhmRows
     ensures { λ r. ⌜ (r .pf ≡ layoutRow l (OhmPf e)) × (r .qf ≡ layoutRow l (OhmQf e)) × (r .pt ≡ layoutRow l (OhmPt e)) × (r .qt ≡ layoutRow l (OhmQt e)) ⌝ }
 {
     OhmRows {
-        pf: r_ohm_pf(l, e),
-        qf: r_ohm_qf(l, e),
-        pt: r_ohm_pt(l, e),
-        qt: r_ohm_qt(l, e),
+        pf: l.ohm_pf_row(e),
+        qf: l.ohm_qf_row(e),
+        pt: l.ohm_pt_row(e),
+        qt: l.ohm_qt_row(e),
     }
 }
 
@@ -61,10 +53,10 @@ fn ohm_columns(l: SocWrLayout, from: usize, to: usize, e: usize) -> OhmColumns
     ensures { λ r. ⌜ (r .from ≡ layoutColumn l (W from)) × (r .to ≡ layoutColumn l (W to)) × (r .wr ≡ layoutColumn l (Wr e)) × (r .wi ≡ layoutColumn l (Wi e)) ⌝ }
 {
     OhmColumns {
-        from: col_w(l, from),
-        to: col_w(l, to),
-        wr: col_wr(l, e),
-        wi: col_wi(l, e),
+        from: l.w_column(from),
+        to: l.w_column(to),
+        wr: l.wr_column(e),
+        wi: l.wi_column(e),
     }
 }
 
@@ -138,5 +130,5 @@ pub fn series_admittance(
     let to = br_to(bytes, r) as usize;
     let cols = ohm_columns(l, from, to, e);
     let es = entries(ohm_rows(l, e), cols, series(bytes, r), gb);
-    land_all(column, nvar(l), es, x, z);
+    land_all(column, l.column_count(), es, x, z);
 }

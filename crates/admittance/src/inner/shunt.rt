@@ -2,10 +2,6 @@
 use crate::inner::stores::land;
 use interface::GB;
 use numbering::SocWrLayout;
-use numbering::inner::col_w;
-use numbering::inner::nvar;
-use numbering::inner::r_pbal;
-use numbering::inner::r_qbal;
 ghost use mathlib.Core.Path.{_≡_};
 ghost use mathlib.Core.List.{[], _∷_};
 ghost use Prim.Native.Nat.{_<_};
@@ -23,8 +19,8 @@ fn shunt_row(l: SocWrLayout, gb: GB, i: usize) -> u32
     ensures { λ r. ⌜ r ≡ layoutRow l (shuntRow gb i) ⌝ }
 {
     match gb {
-        GB::Conductance => r_pbal(l, i),
-        GB::Susceptance => r_qbal(l, i),
+        GB::Conductance => l.pbal_row(i),
+        GB::Susceptance => l.qbal_row(i),
     }
 }
 
@@ -43,5 +39,5 @@ pub fn shunt(l: SocWrLayout, gb: GB, i: usize, x: &[f64], z: &[f64], column: &mu
     ensures { λ _. ⌜ now (column .exit) ≡ storedAll (plus (kktIn l (shuntRow gb i)) (mul binary64 (shuntEntry gb) (getD (now (x .entry)) (layoutColumn l (W i)) nan)) ∷ plus (layoutColumn l (W i)) (mul binary64 (shuntEntry gb) (getD (now (z .entry)) (layoutRow l (shuntRow gb i)) nan)) ∷ []) (now (column .entry)) ⌝ }
 {
     let row = shunt_row(l, gb, i);
-    land(column, nvar(l), row, col_w(l, i), shunt_entry(gb), x, z);
+    land(column, l.column_count(), row, l.w_column(i), shunt_entry(gb), x, z);
 }

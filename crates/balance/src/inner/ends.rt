@@ -2,13 +2,6 @@
 use crate::End;
 use lists::inner::wide;
 use numbering::SocWrLayout;
-use numbering::inner::col_pf;
-use numbering::inner::col_pg;
-use numbering::inner::col_pt;
-use numbering::inner::col_qf;
-use numbering::inner::col_qg;
-use numbering::inner::col_qt;
-use numbering::inner::col_w;
 use records::inner::br_from;
 use records::inner::br_to;
 use records::inner::bs;
@@ -51,9 +44,9 @@ fn active_column(l: SocWrLayout, end: End, j: usize) -> u32
     ensures { λ r. ⌜ r ≡ layoutColumn l (endColumn false end j) ⌝ }
 {
     match end {
-        End::Gen => col_pg(l, j),
-        End::From => col_pf(l, j),
-        End::To => col_pt(l, j),
+        End::Gen => l.pg_column(j),
+        End::From => l.pf_column(j),
+        End::To => l.pt_column(j),
     }
 }
 
@@ -63,9 +56,9 @@ fn reactive_column(l: SocWrLayout, end: End, j: usize) -> u32
     ensures { λ r. ⌜ r ≡ layoutColumn l (endColumn true end j) ⌝ }
 {
     match end {
-        End::Gen => col_qg(l, j),
-        End::From => col_qf(l, j),
-        End::To => col_qt(l, j),
+        End::Gen => l.qg_column(j),
+        End::From => l.qf_column(j),
+        End::To => l.qt_column(j),
     }
 }
 

@@ -11,7 +11,6 @@ use lines::inner::generators::pgub;
 use lines::inner::generators::qglb;
 use lines::inner::generators::qgub;
 use numbering::SocWrLayout;
-use numbering::inner::nvar;
 ghost use mathlib.Core.Path.{_≡_};
 ghost use Prim.Native.Nat.{_+_, _<_, _^_};
 ghost use lib.ListN.{length};
@@ -73,7 +72,7 @@ fn bound_row(
     ensures { λ next. ⌜ Wrote (rowIn (netOf l (now (bytes .entry))) (now (x .entry)) (now (z .entry)) d (boundName kind i)) (out (now (rows .entry)) (now (cols .entry)) (now (vals .entry)) at) (out (now (rows .exit)) (now (cols .exit)) (now (vals .exit)) next) ⌝ }
 {
     let line = bound_line(l, bytes, kind, i);
-    let v = nvar(l);
+    let v = l.column_count();
     put_row(rows, cols, vals, at, d, v, line, x, z)
 }
 

@@ -5,7 +5,6 @@ use lines::inner::cones::thermal_from;
 use lines::inner::cones::thermal_to;
 use lists::inner::bit;
 use numbering::SocWrLayout;
-use numbering::inner::nvar;
 use records::inner::thermal_limit_active;
 ghost use mathlib.Core.Path.{_≡_};
 ghost use Prim.Native.Nat.{_+_, _<_, _^_};
@@ -35,7 +34,7 @@ fn jabr_row(
     ensures { λ next. ⌜ Wrote (coneIn (netOf l (now (bytes .entry))) (now (x .entry)) (now (z .entry)) d 4 (Jabr e)) (out (now (rows .entry)) (now (cols .entry)) (now (vals .entry)) at) (out (now (rows .exit)) (now (cols .exit)) (now (vals .exit)) next) ⌝ }
 {
     let c = jabr(l, bytes, e);
-    let v = nvar(l);
+    let v = l.column_count();
     put_lines(rows, cols, vals, at, d, v, c, 4, x, z)
 }
 
@@ -84,7 +83,7 @@ fn thermal_row(
     ensures { λ next. ⌜ Wrote (thermalIn (netOf l (now (bytes .entry))) (now (x .entry)) (now (z .entry)) d e) (out (now (rows .entry)) (now (cols .entry)) (now (vals .entry)) at) (out (now (rows .exit)) (now (cols .exit)) (now (vals .exit)) next) ⌝ }
 {
     if thermal_limit_active(bytes, l.n + e) {
-        let v = nvar(l);
+        let v = l.column_count();
         let a = thermal_from(l, bytes, e, limits);
         let b = thermal_to(l, bytes, e, limits);
         let next = put_lines(rows, cols, vals, at, d, v, a, 3, x, z);

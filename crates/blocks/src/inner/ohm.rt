@@ -8,7 +8,6 @@ use lines::inner::ohm::ohm_qt;
 use lists::inner::put;
 use lists::inner::put_if;
 use numbering::SocWrLayout;
-use numbering::inner::nvar;
 ghost use Prim.Native.Nat.{_+_, _<_, _^_};
 ghost use lib.ListN.{length};
 ghost use Rattle.lists.specs.Out.{out, Wrote};
@@ -60,7 +59,7 @@ fn ohm_row(
     ensures { λ next. ⌜ Wrote (plainRow (netOf l (now (bytes .entry))) (flowName flow e)) (out (now (rows .entry)) (now (cols .entry)) (now (vals .entry)) at) (out (now (rows .exit)) (now (cols .exit)) (now (vals .exit)) next) ⌝ }
 {
     let o = ohm_line(l, bytes, flow, e);
-    let r = nvar(l) + o.row;
+    let r = l.column_count() + o.row;
     put_ohm(rows, cols, vals, at, r, o)
 }
 

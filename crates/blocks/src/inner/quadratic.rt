@@ -1,7 +1,6 @@
 // P.
 use lists::inner::put_if;
 use numbering::SocWrLayout;
-use numbering::inner::col_pg;
 use records::inner::cq;
 ghost use Prim.Native.Nat.{_+_, _*_, _<_, _^_};
 ghost use lib.ListN.{length};
@@ -26,7 +25,7 @@ pub fn put_quadratic(
     let mut g = 0;
     while g < l.k {
         let v = 2.0 * cq(bytes, l.n + l.m + g);
-        let c = col_pg(l, g);
+        let c = l.pg_column(g);
         next = put_if(rows, cols, vals, next, v != 0.0, c, c, v);
         g += 1;
     }

@@ -3,7 +3,6 @@ use complementarity::inner::single::put_row;
 use lines::inner::generators::segment;
 use lists::inner::bit;
 use numbering::SocWrLayout;
-use numbering::inner::nvar;
 use records::inner::piecewise;
 use records::inner::segments;
 ghost use mathlib.Core.Path.{_≡_};
@@ -37,7 +36,7 @@ fn segment_row(
     ensures { λ next. ⌜ Wrote (rowIn (netOf l (now (bytes .entry))) (now (x .entry)) (now (z .entry)) d (Segment g t)) (out (now (rows .entry)) (now (cols .entry)) (now (vals .entry)) at) (out (now (rows .exit)) (now (cols .exit)) (now (vals .exit)) next) ⌝ }
 {
     let line = segment(l, bytes, g, t, before, curves);
-    let v = nvar(l);
+    let v = l.column_count();
     put_row(rows, cols, vals, at, d, v, line, x, z)
 }
 

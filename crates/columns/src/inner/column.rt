@@ -12,8 +12,6 @@ use elements::inner::lengths::parameter_count;
 use interface::Parameter;
 use lists::inner::fill_f64;
 use numbering::SocWrLayout;
-use numbering::inner::ncon;
-use numbering::inner::nvar;
 use records::inner::id;
 use records::inner::piecewise;
 use refusals::Checked;
@@ -71,7 +69,7 @@ fn dim(l: SocWrLayout, bytes: &[u8]) -> usize
     requires { ⌜ Laid l (now bytes) ⌝ }
     ensures { λ r. ⌜ r ≡ dim (netOf l (now (bytes .entry))) ⌝ }
 {
-    nvar(l) as usize + ncon(l) as usize
+    l.column_count() as usize + l.row_count() as usize
 }
 
 // 8.

@@ -2,8 +2,6 @@
 use admittance::inner::stores::value;
 use lists::inner::store_f64;
 use numbering::SocWrLayout;
-use numbering::inner::nvar;
-use numbering::inner::thermal_base;
 use records::inner::thermal_limit_active;
 ghost use mathlib.Core.Path.{_≡_};
 ghost use mathlib.Core.List.{[], _∷_};
@@ -38,7 +36,7 @@ fn r_thermal(l: SocWrLayout, bytes: &[u8], e: usize, before: usize) -> usize
     ensures { λ r. ⌜ r ≡ rowNumber (netOf l (now (bytes .entry))) (Thermal e 0) ⌝ }
     ensures { λ r. ⌜ r < 4294967296 ⌝ }
 {
-    thermal_base(l) as usize + 6 * before
+    l.thermal_row(0, 0) as usize + 6 * before
 }
 
 // The cones' z, or nothing where the branch has no limit.
@@ -56,6 +54,6 @@ pub fn line_limit(
     ensures { λ _. ⌜ now (column .exit) ≡ storedAll (limitStores (netOf l (now (bytes .entry))) (now (z .entry)) e) (now (column .entry)) ⌝ }
 {
     if thermal_limit_active(bytes, l.n + e) {
-        six(nvar(l), r_thermal(l, bytes, e, before), z, column);
+        six(l.column_count(), r_thermal(l, bytes, e, before), z, column);
     }
 }

@@ -6,14 +6,6 @@ use interface::CostTerm;
 use interface::Power;
 use lists::inner::store_f64;
 use numbering::SocWrLayout;
-use numbering::inner::col_pg;
-use numbering::inner::nvar;
-use numbering::inner::r_pglb;
-use numbering::inner::r_pgub;
-use numbering::inner::r_qglb;
-use numbering::inner::r_qgub;
-use numbering::inner::r_wlb;
-use numbering::inner::r_wub;
 ghost use mathlib.Core.Path.{_≡_};
 ghost use mathlib.Core.List.{[], _∷_};
 ghost use Prim.Native.Nat.{_+_, _<_};
@@ -33,8 +25,8 @@ fn voltage_row(l: SocWrLayout, bound: Bound, i: usize) -> u32
     ensures { λ r. ⌜ r ≡ layoutRow l (voltageRow bound i) ⌝ }
 {
     match bound {
-        Bound::Max => r_wub(l, i),
-        Bound::Min => r_wlb(l, i),
+        Bound::Max => l.wub_row(i),
+        Bound::Min => l.wlb_row(i),
     }
 }
 
@@ -44,8 +36,8 @@ fn active_row(l: SocWrLayout, bound: Bound, g: usize) -> u32
     ensures { λ r. ⌜ r ≡ layoutRow l (genRow Power.Active bound g) ⌝ }
 {
     match bound {
-        Bound::Max => r_pgub(l, g),
-        Bound::Min => r_pglb(l, g),
+        Bound::Max => l.pgub_row(g),
+        Bound::Min => l.pglb_row(g),
     }
 }
 
@@ -55,8 +47,8 @@ fn reactive_row(l: SocWrLayout, bound: Bound, g: usize) -> u32
     ensures { λ r. ⌜ r ≡ layoutRow l (genRow Power.Reactive bound g) ⌝ }
 {
     match bound {
-        Bound::Max => r_qgub(l, g),
-        Bound::Min => r_qglb(l, g),
+        Bound::Max => l.qgub_row(g),
+        Bound::Min => l.qglb_row(g),
     }
 }
 
@@ -95,7 +87,7 @@ pub fn demand(l: SocWrLayout, power: Power, i: usize, column: &mut [f64])
     ensures { λ _. ⌜ now (column .exit) ≡ storedAll (put (kktIn l (balanceRow power i)) (constant64 minusOne) ∷ []) (now (column .entry)) ⌝ }
 {
     let row = balance_row(l, power, i) as usize;
-    store_f64(column, nvar(l) as usize + row, -1.0);
+    store_f64(column, l.column_count() as usize + row, -1.0);
 }
 
 // A bound's row: z times db/dp.
@@ -111,7 +103,7 @@ pub fn voltage_bound(l: SocWrLayout, bound: Bound, i: usize, z: &[f64], column: 
     requires { ⌜ i < l .n ⌝ }
     ensures { λ _. ⌜ now (column .exit) ≡ storedAll (put (kktIn l (voltageRow bound i)) (mul binary64 (getD (now (z .entry)) (layoutRow l (voltageRow bound i)) nan) (dbdp bound)) ∷ []) (now (column .entry)) ⌝ }
 {
-    bound_at(nvar(l), voltage_row(l, bound, i), bound, z, column);
+    bound_at(l.column_count(), voltage_row(l, bound, i), bound, z, column);
 }
 
 pub fn gen_bound(
@@ -126,7 +118,7 @@ pub fn gen_bound(
     requires { ⌜ g < l .k ⌝ }
     ensures { λ _. ⌜ now (column .exit) ≡ storedAll (put (kktIn l (genRow power bound g)) (mul binary64 (getD (now (z .entry)) (layoutRow l (genRow power bound g)) nan) (dbdp bound)) ∷ []) (now (column .entry)) ⌝ }
 {
-    bound_at(nvar(l), gen_row(l, power, bound, g), bound, z, column);
+    bound_at(l.column_count(), gen_row(l, power, bound, g), bound, z, column);
 }
 
 pub fn cost(l: SocWrLayout, term: CostTerm, g: usize, x: &[f64], column: &mut [f64])
@@ -134,6 +126,6 @@ pub fn cost(l: SocWrLayout, term: CostTerm, g: usize, x: &[f64], column: &mut [f
     requires { ⌜ g < l .k ⌝ }
     ensures { λ _. ⌜ now (column .exit) ≡ storedAll (put (layoutColumn l (Pg g)) (costSlope term (getD (now (x .entry)) (layoutColumn l (Pg g)) nan)) ∷ []) (now (column .entry)) ⌝ }
 {
-    let col = col_pg(l, g) as usize;
+    let col = l.pg_column(g) as usize;
     store_f64(column, col, cost_slope(term, value(x, col)));
 }

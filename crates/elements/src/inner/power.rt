@@ -1,8 +1,6 @@
 // The balance row of a bus.
 use interface::Power;
 use numbering::SocWrLayout;
-use numbering::inner::r_pbal;
-use numbering::inner::r_qbal;
 ghost use mathlib.Core.Path.{_≡_};
 ghost use Prim.Native.Nat.{_<_};
 ghost use Rattle.numbering.specs.Layout.{InRange, layoutRow};
@@ -14,7 +12,7 @@ pub fn balance_row(l: SocWrLayout, power: Power, i: usize) -> u32
     ensures { λ r. ⌜ r ≡ layoutRow l (balanceRow power i) ⌝ }
 {
     match power {
-        Power::Active => r_pbal(l, i),
-        Power::Reactive => r_qbal(l, i),
+        Power::Active => l.pbal_row(i),
+        Power::Reactive => l.qbal_row(i),
     }
 }

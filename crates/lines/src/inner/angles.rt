@@ -5,10 +5,6 @@ use super::spot;
 use crate::Line;
 use branch::inner::conic_angle_bound_active;
 use numbering::SocWrLayout;
-use numbering::inner::col_wi;
-use numbering::inner::col_wr;
-use numbering::inner::r_anglb;
-use numbering::inner::r_angub;
 use records::inner::tan_angmax;
 use records::inner::tan_angmin;
 ghost use Prim.Native.Nat.{_<_};
@@ -26,10 +22,10 @@ pub fn angub(l: SocWrLayout, bytes: &[u8], e: usize) -> Line
     let v = -tan_angmax(bytes, r);
     let rhs = pick(on, 0.0, 1.0);
     line(
-        r_angub(l, e),
+        l.angub_row(e),
         rhs,
-        spot(on & (v != 0.0), col_wr(l, e), v),
-        spot(on, col_wi(l, e), 1.0),
+        spot(on & (v != 0.0), l.wr_column(e), v),
+        spot(on, l.wi_column(e), 1.0),
     )
 }
 
@@ -43,9 +39,9 @@ pub fn anglb(l: SocWrLayout, bytes: &[u8], e: usize) -> Line
     let v = tan_angmin(bytes, r);
     let rhs = pick(on, 0.0, 1.0);
     line(
-        r_anglb(l, e),
+        l.anglb_row(e),
         rhs,
-        spot(on & (v != 0.0), col_wr(l, e), v),
-        spot(on, col_wi(l, e), -1.0),
+        spot(on & (v != 0.0), l.wr_column(e), v),
+        spot(on, l.wi_column(e), -1.0),
     )
 }

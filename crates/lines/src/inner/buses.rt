@@ -3,9 +3,6 @@ use super::pick;
 use super::single;
 use crate::Line;
 use numbering::SocWrLayout;
-use numbering::inner::col_w;
-use numbering::inner::r_wlb;
-use numbering::inner::r_wub;
 use records::inner::vm_max;
 use records::inner::vm_min;
 use records::inner::voltage_bound_active;
@@ -22,7 +19,7 @@ pub fn wub(l: SocWrLayout, bytes: &[u8], i: usize) -> Line
     let on = voltage_bound_active(bytes, i);
     let vm = vm_max(bytes, i);
     let rhs = pick(on, vm * vm, 1.0);
-    single(r_wub(l, i), rhs, on, col_w(l, i), 1.0)
+    single(l.wub_row(i), rhs, on, l.w_column(i), 1.0)
 }
 
 pub fn wlb(l: SocWrLayout, bytes: &[u8], i: usize) -> Line
@@ -33,5 +30,5 @@ pub fn wlb(l: SocWrLayout, bytes: &[u8], i: usize) -> Line
     let on = voltage_bound_active(bytes, i);
     let vm = vm_min(bytes, i);
     let rhs = pick(on, -vm * vm, 1.0);
-    single(r_wlb(l, i), rhs, on, col_w(l, i), -1.0)
+    single(l.wlb_row(i), rhs, on, l.w_column(i), -1.0)
 }

@@ -6,15 +6,6 @@ use crate::Cone;
 use crate::Line;
 use lists::inner::wide;
 use numbering::SocWrLayout;
-use numbering::inner::col_pf;
-use numbering::inner::col_pt;
-use numbering::inner::col_qf;
-use numbering::inner::col_qt;
-use numbering::inner::col_w;
-use numbering::inner::col_wi;
-use numbering::inner::col_wr;
-use numbering::inner::r_jabr;
-use numbering::inner::thermal_base;
 use records::inner::br_from;
 use records::inner::br_to;
 use records::inner::rate_a;
@@ -52,8 +43,8 @@ fn ends(l: SocWrLayout, bytes: &[u8], e: usize, row: u32, v: f64) -> Line
     let r = l.n + e;
     let from = wide(br_from(bytes, r));
     let to = wide(br_to(bytes, r));
-    let a = spot(true, col_w(l, from), -0.5);
-    let b = spot(true, col_w(l, to), v);
+    let a = spot(true, l.w_column(from), -0.5);
+    let b = spot(true, l.w_column(to), v);
     if from < to {
         return line(row, 0.0, a, b);
     }
@@ -65,10 +56,10 @@ pub fn jabr(l: SocWrLayout, bytes: &[u8], e: usize) -> Cone
     requires { ⌜ e < l .m ⌝ }
     ensures { λ r. ⌜ ConeStands (netOf l (now (bytes .entry))) 4 (Jabr e) r ⌝ }
 {
-    let row = r_jabr(l, e);
+    let row = l.jabr_row(e, 0);
     let a = ends(l, bytes, e, row, -0.5);
-    let b = single(row + 1, 0.0, true, col_wr(l, e), -1.0);
-    let c = single(row + 2, 0.0, true, col_wi(l, e), -1.0);
+    let b = single(row + 1, 0.0, true, l.wr_column(e), -1.0);
+    let c = single(row + 2, 0.0, true, l.wi_column(e), -1.0);
     let d = ends(l, bytes, e, row + 3, 0.5);
     Cone { a, b, c, d }
 }
@@ -90,8 +81,8 @@ pub fn thermal_from(l: SocWrLayout, bytes: &[u8], e: usize, limits: usize) -> Co
     requires { ⌜ (e < l .m) × (netOf l (now bytes) .limited e ≡ true) × (limits ≡ count e (netOf l (now bytes) .limited)) ⌝ }
     ensures { λ r. ⌜ ConeStands (netOf l (now (bytes .entry))) 3 (thermalFrom e) r ⌝ }
 {
-    let row = thermal_base(l) + (6 * limits) as u32;
-    thermal(row, rate_a(bytes, l.n + e), col_pf(l, e), col_qf(l, e))
+    let row = l.thermal_row(0, 0) + (6 * limits) as u32;
+    thermal(row, rate_a(bytes, l.n + e), l.pf_column(e), l.qf_column(e))
 }
 
 pub fn thermal_to(l: SocWrLayout, bytes: &[u8], e: usize, limits: usize) -> Cone
@@ -99,6 +90,6 @@ pub fn thermal_to(l: SocWrLayout, bytes: &[u8], e: usize, limits: usize) -> Cone
     requires { ⌜ (e < l .m) × (netOf l (now bytes) .limited e ≡ true) × (limits ≡ count e (netOf l (now bytes) .limited)) ⌝ }
     ensures { λ r. ⌜ ConeStands (netOf l (now (bytes .entry))) 3 (thermalTo e) r ⌝ }
 {
-    let row = thermal_base(l) + (6 * limits + 3) as u32;
-    thermal(row, rate_a(bytes, l.n + e), col_pt(l, e), col_qt(l, e))
+    let row = l.thermal_row(0, 0) + (6 * limits + 3) as u32;
+    thermal(row, rate_a(bytes, l.n + e), l.pt_column(e), l.qt_column(e))
 }

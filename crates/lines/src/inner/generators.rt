@@ -5,14 +5,6 @@ use super::single;
 use super::spot;
 use crate::Line;
 use numbering::SocWrLayout;
-use numbering::inner::col_pg;
-use numbering::inner::col_qg;
-use numbering::inner::cost_base;
-use numbering::inner::r_pglb;
-use numbering::inner::r_pgub;
-use numbering::inner::r_qglb;
-use numbering::inner::r_qgub;
-use numbering::inner::segment_base;
 use records::inner::generator_capability_active;
 use records::inner::intercept;
 use records::inner::pmax;
@@ -36,7 +28,7 @@ pub fn pgub(l: SocWrLayout, bytes: &[u8], g: usize) -> Line
     let on = generator_capability_active(bytes, r);
     let x = pmax(bytes, r);
     let rhs = pick(on, x, 1.0);
-    single(r_pgub(l, g), rhs, on, col_pg(l, g), 1.0)
+    single(l.pgub_row(g), rhs, on, l.pg_column(g), 1.0)
 }
 
 pub fn pglb(l: SocWrLayout, bytes: &[u8], g: usize) -> Line
@@ -48,7 +40,7 @@ pub fn pglb(l: SocWrLayout, bytes: &[u8], g: usize) -> Line
     let on = generator_capability_active(bytes, r);
     let x = pmin(bytes, r);
     let rhs = pick(on, -x, 1.0);
-    single(r_pglb(l, g), rhs, on, col_pg(l, g), -1.0)
+    single(l.pglb_row(g), rhs, on, l.pg_column(g), -1.0)
 }
 
 pub fn qgub(l: SocWrLayout, bytes: &[u8], g: usize) -> Line
@@ -60,7 +52,7 @@ pub fn qgub(l: SocWrLayout, bytes: &[u8], g: usize) -> Line
     let on = generator_capability_active(bytes, r);
     let x = qmax(bytes, r);
     let rhs = pick(on, x, 1.0);
-    single(r_qgub(l, g), rhs, on, col_qg(l, g), 1.0)
+    single(l.qgub_row(g), rhs, on, l.qg_column(g), 1.0)
 }
 
 pub fn qglb(l: SocWrLayout, bytes: &[u8], g: usize) -> Line
@@ -72,7 +64,7 @@ pub fn qglb(l: SocWrLayout, bytes: &[u8], g: usize) -> Line
     let on = generator_capability_active(bytes, r);
     let x = qmin(bytes, r);
     let rhs = pick(on, -x, 1.0);
-    single(r_qglb(l, g), rhs, on, col_qg(l, g), -1.0)
+    single(l.qglb_row(g), rhs, on, l.qg_column(g), -1.0)
 }
 
 // Segment t of generator g; so many segments and cost columns are before the generator's.
@@ -90,14 +82,14 @@ pub fn segment(
     ensures { λ r. ⌜ Stands (netOf l (now (bytes .entry))) (Segment g t) r ⌝ }
 {
     let r = l.n + l.m + l.k + segments + t;
-    let row = segment_base(l) + (segments + t) as u32;
-    let col = cost_base(l) + curves as u32;
+    let row = l.segment_row(0) + (segments + t) as u32;
+    let col = l.cost_column(0) + curves as u32;
     let v = slope(bytes, r);
     let rhs = -intercept(bytes, r);
     line(
         row,
         rhs,
-        spot(v != 0.0, col_pg(l, g), v),
+        spot(v != 0.0, l.pg_column(g), v),
         spot(true, col, -1.0),
     )
 }

@@ -3,17 +3,6 @@ use crate::Ohm;
 use branch::inner::series;
 use lists::inner::wide;
 use numbering::SocWrLayout;
-use numbering::inner::col_pf;
-use numbering::inner::col_pt;
-use numbering::inner::col_qf;
-use numbering::inner::col_qt;
-use numbering::inner::col_w;
-use numbering::inner::col_wi;
-use numbering::inner::col_wr;
-use numbering::inner::r_ohm_pf;
-use numbering::inner::r_ohm_pt;
-use numbering::inner::r_ohm_qf;
-use numbering::inner::r_ohm_qt;
 use records::inner::b_fr;
 use records::inner::b_to;
 use records::inner::br_from;
@@ -43,9 +32,9 @@ fn ohm(
 {
     Ohm {
         row,
-        w: col_w(l, bus),
-        wr: col_wr(l, e),
-        wi: col_wi(l, e),
+        w: l.w_column(bus),
+        wr: l.wr_column(e),
+        wi: l.wi_column(e),
         flow,
         at_w,
         at_wr,
@@ -65,7 +54,7 @@ pub fn ohm_pf(l: SocWrLayout, bytes: &[u8], e: usize) -> Ohm
     let wr = -(-t.g * t.tr + t.b * t.ti) / t.tm2;
     let wi = -(-t.b * t.tr - t.g * t.ti) / t.tm2;
     let bus = wide(br_from(bytes, r));
-    ohm(l, e, bus, r_ohm_pf(l, e), col_pf(l, e), w, wr, wi)
+    ohm(l, e, bus, l.ohm_pf_row(e), l.pf_column(e), w, wr, wi)
 }
 
 pub fn ohm_qf(l: SocWrLayout, bytes: &[u8], e: usize) -> Ohm
@@ -80,7 +69,7 @@ pub fn ohm_qf(l: SocWrLayout, bytes: &[u8], e: usize) -> Ohm
     let wr = (-t.b * t.tr - t.g * t.ti) / t.tm2;
     let wi = -(-t.g * t.tr + t.b * t.ti) / t.tm2;
     let bus = wide(br_from(bytes, r));
-    ohm(l, e, bus, r_ohm_qf(l, e), col_qf(l, e), w, wr, wi)
+    ohm(l, e, bus, l.ohm_qf_row(e), l.qf_column(e), w, wr, wi)
 }
 
 pub fn ohm_pt(l: SocWrLayout, bytes: &[u8], e: usize) -> Ohm
@@ -95,7 +84,7 @@ pub fn ohm_pt(l: SocWrLayout, bytes: &[u8], e: usize) -> Ohm
     let wr = -(-t.g * t.tr - t.b * t.ti) / t.tm2;
     let wi = (-t.b * t.tr + t.g * t.ti) / t.tm2;
     let bus = wide(br_to(bytes, r));
-    ohm(l, e, bus, r_ohm_pt(l, e), col_pt(l, e), w, wr, wi)
+    ohm(l, e, bus, l.ohm_pt_row(e), l.pt_column(e), w, wr, wi)
 }
 
 pub fn ohm_qt(l: SocWrLayout, bytes: &[u8], e: usize) -> Ohm
@@ -110,5 +99,5 @@ pub fn ohm_qt(l: SocWrLayout, bytes: &[u8], e: usize) -> Ohm
     let wr = (-t.b * t.tr + t.g * t.ti) / t.tm2;
     let wi = (-t.g * t.tr - t.b * t.ti) / t.tm2;
     let bus = wide(br_to(bytes, r));
-    ohm(l, e, bus, r_ohm_qt(l, e), col_qt(l, e), w, wr, wi)
+    ohm(l, e, bus, l.ohm_qt_row(e), l.qt_column(e), w, wr, wi)
 }

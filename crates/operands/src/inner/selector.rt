@@ -9,16 +9,6 @@ use interface::Power;
 use interface::VoltageKind;
 use lists::inner::fill_f64;
 use numbering::SocWrLayout;
-use numbering::inner::col_pf;
-use numbering::inner::col_pg;
-use numbering::inner::col_pt;
-use numbering::inner::col_qf;
-use numbering::inner::col_qg;
-use numbering::inner::col_qt;
-use numbering::inner::col_w;
-use numbering::inner::col_wi;
-use numbering::inner::col_wr;
-use numbering::inner::nvar;
 use refusals::Checked;
 use refusals::Refusal;
 use refusals::is_refused;
@@ -54,7 +44,7 @@ fn price_first(l: SocWrLayout, bytes: &[u8], power: Power) -> u32
     requires { ⌜ 0 < l .n ⌝ }
     ensures { λ r. ⌜ r ≡ selectorRow (netOf l (now (bytes .entry))) (Operand.Price power) 0 ⌝ }
 {
-    nvar(l) + balance_row(l, power, 0)
+    l.column_count() + balance_row(l, power, 0)
 }
 
 fn dispatch_first(l: SocWrLayout, power: Power) -> u32
@@ -63,8 +53,8 @@ fn dispatch_first(l: SocWrLayout, power: Power) -> u32
     ensures { λ r. ⌜ r ≡ layoutColumn l (dispatchColumn power 0) ⌝ }
 {
     match power {
-        Power::Active => col_pg(l, 0),
-        Power::Reactive => col_qg(l, 0),
+        Power::Active => l.pg_column(0),
+        Power::Reactive => l.qg_column(0),
     }
 }
 
@@ -74,8 +64,8 @@ fn active_first(l: SocWrLayout, end: End) -> u32
     ensures { λ r. ⌜ r ≡ layoutColumn l (flowOf Power.Active end 0) ⌝ }
 {
     match end {
-        End::From => col_pf(l, 0),
-        End::To => col_pt(l, 0),
+        End::From => l.pf_column(0),
+        End::To => l.pt_column(0),
     }
 }
 
@@ -85,8 +75,8 @@ fn reactive_first(l: SocWrLayout, end: End) -> u32
     ensures { λ r. ⌜ r ≡ layoutColumn l (flowOf Power.Reactive end 0) ⌝ }
 {
     match end {
-        End::From => col_qf(l, 0),
-        End::To => col_qt(l, 0),
+        End::From => l.qf_column(0),
+        End::To => l.qt_column(0),
     }
 }
 
@@ -109,9 +99,9 @@ fn voltage_first(l: SocWrLayout, bytes: &[u8], kind: VoltageKind) -> u32
     match kind {
         VoltageKind::Magnitude => 0,
         VoltageKind::Angle => 0,
-        VoltageKind::Squared => col_w(l, 0),
-        VoltageKind::ProductReal => col_wr(l, 0),
-        VoltageKind::ProductImag => col_wi(l, 0),
+        VoltageKind::Squared => l.w_column(0),
+        VoltageKind::ProductReal => l.wr_column(0),
+        VoltageKind::ProductImag => l.wi_column(0),
     }
 }
 

@@ -40,10 +40,10 @@ fn put_products(
     ensures { λ x. ⌜ WroteCells (products (netOf l (now (bytes .entry))) e p) (cellOut (now (rows .entry)) (now (vals .entry)) at) (cellOut (now (rows .exit)) (now (vals .exit)) x) ⌝ }
     ensures { λ x. ⌜ x ≤ at + 4 ⌝ }
 {
-    let r1 = numbering::inner::r_ohm_pf(l, e);
-    let r2 = numbering::inner::r_ohm_qf(l, e);
-    let r3 = numbering::inner::r_ohm_pt(l, e);
-    let r4 = numbering::inner::r_ohm_qt(l, e);
+    let r1 = l.ohm_pf_row(e);
+    let r2 = l.ohm_qf_row(e);
+    let r3 = l.ohm_pt_row(e);
+    let r4 = l.ohm_qt_row(e);
     let a1 = put_nonzero(rows, vals, at, r1, p.pf);
     let a2 = put_nonzero(rows, vals, a1, r2, p.qf);
     let a3 = put_nonzero(rows, vals, a2, r3, p.pt);
@@ -66,8 +66,8 @@ fn put_wr_angles(
 {
     let r = l.n + e;
     if conic_angle_bound_active(bytes, r) {
-        let upper = numbering::inner::r_angub(l, e);
-        let lower = numbering::inner::r_anglb(l, e);
+        let upper = l.angub_row(e);
+        let lower = l.anglb_row(e);
         let tmax = records::inner::tan_angmax(bytes, r);
         let tmin = records::inner::tan_angmin(bytes, r);
         let next = put_nonzero(rows, vals, at, upper, -tmax);
@@ -91,7 +91,7 @@ fn put_wr(
 {
     let record = l.n + e;
     let p = wr_products(series(bytes, record));
-    let cone = numbering::inner::r_jabr(l, e) + 1;
+    let cone = l.jabr_row(e, 0) + 1;
     let a1 = put_products(rows, vals, at, l, bytes, e, p);
     let a2 = put_wr_angles(rows, vals, a1, l, bytes, e);
     put(rows, vals, a2, cone, -1.0)
@@ -113,9 +113,9 @@ fn put_wi(
     let record = l.n + e;
     let p = wi_products(series(bytes, record));
     let on = conic_angle_bound_active(bytes, record);
-    let upper = numbering::inner::r_angub(l, e);
-    let lower = numbering::inner::r_anglb(l, e);
-    let cone = numbering::inner::r_jabr(l, e) + 2;
+    let upper = l.angub_row(e);
+    let lower = l.anglb_row(e);
+    let cone = l.jabr_row(e, 0) + 2;
     let a1 = put_products(rows, vals, at, l, bytes, e, p);
     let a2 = put_bounds(rows, vals, a1, on, upper, lower);
     put(rows, vals, a2, cone, -1.0)
@@ -178,10 +178,10 @@ fn balance_row(q: OhmRow, l: SocWrLayout, bytes: &[u8], i: usize) -> u32
     ensures { λ r. ⌜ r ≡ rowNumber (netOf l (now (bytes .entry))) (balanceRow (rowKind q) i) ⌝ }
 {
     match q {
-        OhmRow::Pf => numbering::inner::r_pbal(l, i),
-        OhmRow::Qf => numbering::inner::r_qbal(l, i),
-        OhmRow::Pt => numbering::inner::r_pbal(l, i),
-        OhmRow::Qt => numbering::inner::r_qbal(l, i),
+        OhmRow::Pf => l.pbal_row(i),
+        OhmRow::Qf => l.qbal_row(i),
+        OhmRow::Pt => l.pbal_row(i),
+        OhmRow::Qt => l.qbal_row(i),
     }
 }
 
@@ -232,7 +232,7 @@ fn put_flow(
     ensures { λ x. ⌜ WroteCells (flowCells (netOf l (now (bytes .entry))) (rowKind q) e) (cellOut (now (rows .entry)) (now (vals .entry)) at) (cellOut (now (rows .exit)) (now (vals .exit)) x) ⌝ }
     ensures { λ x. ⌜ x ≤ at + 3 ⌝ }
 {
-    let base = numbering::inner::thermal_base(l) + 6 * (rank as u32);
+    let base = l.thermal_row(0, 0) + 6 * (rank as u32);
     let thermal = base + thermal_place(q);
     let on = records::inner::thermal_limit_active(bytes, l.n + e);
     let bus = end_bus(q, l, bytes, e);

@@ -77,9 +77,9 @@ fn put_pg_head(
     let r = l.n + l.m + g;
     let bus = records::inner::gen_bus(bytes, r);
     let on = records::inner::generator_capability_active(bytes, r);
-    let balance = numbering::inner::r_pbal(l, bus as usize);
-    let upper = numbering::inner::r_pgub(l, g);
-    let lower = numbering::inner::r_pglb(l, g);
+    let balance = l.pbal_row(bus as usize);
+    let upper = l.pgub_row(g);
+    let lower = l.pglb_row(g);
     let next = put(rows, vals, at, balance, 1.0);
     put_bounds(rows, vals, next, on, upper, lower)
 }
@@ -100,9 +100,9 @@ fn put_qg(
     let r = l.n + l.m + g;
     let bus = records::inner::gen_bus(bytes, r);
     let on = records::inner::generator_capability_active(bytes, r);
-    let balance = numbering::inner::r_qbal(l, bus as usize);
-    let upper = numbering::inner::r_qgub(l, g);
-    let lower = numbering::inner::r_qglb(l, g);
+    let balance = l.qbal_row(bus as usize);
+    let upper = l.qgub_row(g);
+    let lower = l.qglb_row(g);
     let next = put(rows, vals, at, balance, 1.0);
     put_bounds(rows, vals, next, on, upper, lower)
 }
@@ -125,7 +125,7 @@ fn put_pg(
     ensures { λ x. ⌜ x ≤ at + 3 + count ⌝ }
 {
     let first = l.n + l.m + l.k + seg;
-    let base = numbering::inner::segment_base(l) as usize;
+    let base = l.segment_row(0) as usize;
     let next = put_pg_head(rows, vals, at, l, bytes, g);
     put_slopes(rows, vals, next, bytes, first, base + seg, count)
 }
@@ -238,7 +238,7 @@ pub fn put_costs(
     ensures { λ x. ⌜ x ≤ at + l .s ⌝ }
 {
     let k = l.k;
-    let base = numbering::inner::segment_base(l) as usize;
+    let base = l.segment_row(0) as usize;
     let mut c = 2 * l.k + l.n + 6 * l.m;
     let mut next = at;
     let mut seg = 0;

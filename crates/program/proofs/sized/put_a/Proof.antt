@@ -11,7 +11,7 @@ use Rattle.program.proofs.sized.put_a.Tie as tie
 returns : tie.Need-returns
 returns c =
     let hs = matrix-starts (c .before .before .before .before .before .before .args .l) (now (c .before .before .before .before .before .before .args .bytes)) (c .before .before .before .before .before .before .pre) in
-    short-starts refl (omega (arith, hs, c .before .nvar .ensures)) (c .if1 .taken)
+    short-starts refl (omega (arith, hs, c .before .column-count .ensures)) (c .if1 .taken)
 
 pub put-a-spec : {M : Type 1} → statement M
 put-a-spec = tie.close (tie.spec (λ c κs. search needs) (λ c. search needs) (λ c. search needs) returns (λ c κs. search needs) (λ c. search needs) (λ c. search needs) (λ c. search needs) (λ c. search needs))

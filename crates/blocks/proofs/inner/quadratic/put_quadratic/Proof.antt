@@ -28,19 +28,19 @@ add-cq-2 c = let q = c .before .before .before .before .before .before .before .
 cq-requires : tie.Need-cq-requires Inv-loop μ-loop
 cq-requires c κs = omega (arith, c .before .before .before .before .before .before .before .before .pre .0 .accepted .size)
 
-col-pg-requires : tie.Need-col-pg-requires Inv-loop μ-loop
-col-pg-requires c κs = (c .before .before .before .before .before .before .before .before .before .pre .0 .range, c .before .before .if1 .taken)
+pg-column-requires : tie.Need-pg-column-requires Inv-loop μ-loop
+pg-column-requires c κs = (c .before .before .before .before .before .before .before .before .before .pre .0 .range, c .before .before .if1 .taken)
 
 put-if-requires : tie.Need-put-if-requires Inv-loop μ-loop
 unfolding quadratic
-put-if-requires c κs = rw (c .before .before .before .col-pg .ensures, c .before .before .before .before .cq .ensures) (room-turn (diagonalAt (c .before .before .before .before .before .before .before .before .before .before .before .before .before .args .l) (now (c .before .before .before .before .before .before .before .before .before .before .before .before .before .args .bytes))) _ _ (c .before .before .before .before .before .before .before .before .loop .inv .1) (c .before .before .before .before .before .before .if1 .taken) (c .before .before .before .before .before .before .before .before .before .before .before .before .before .pre .1))
+put-if-requires c κs = rw (c .before .before .before .pg-column .ensures, c .before .before .before .before .cq .ensures) (room-turn (diagonalAt (c .before .before .before .before .before .before .before .before .before .before .before .before .before .args .l) (now (c .before .before .before .before .before .before .before .before .before .before .before .before .before .args .bytes))) _ _ (c .before .before .before .before .before .before .before .before .loop .inv .1) (c .before .before .before .before .before .before .if1 .taken) (c .before .before .before .before .before .before .before .before .before .before .before .before .before .pre .1))
 
 loop-again : tie.Need-loop-again Inv-loop μ-loop
-loop-again c = (omega arith, turn _ _ (c .before .before .before .before .before .before .before .before .before .before .before .before .before .before .before .loop .inv .1) (rw (c .before .before .before .before .before .before .before .before .before .before .col-pg .ensures, c .before .before .before .before .before .before .before .before .before .before .before .cq .ensures) at (c .before .before .before .before .before .before .put-if .ensures)))
+loop-again c = (omega arith, turn _ _ (c .before .before .before .before .before .before .before .before .before .before .before .before .before .before .before .loop .inv .1) (rw (c .before .before .before .before .before .before .before .before .before .before .pg-column .ensures, c .before .before .before .before .before .before .before .before .before .before .before .cq .ensures) at (c .before .before .before .before .before .before .put-if .ensures)))
 
 returns : tie.Need-returns Inv-loop μ-loop
 unfolding quadratic
 returns c = let e : c .before .before .loop .g ≡ c .before .before .before .before .before .before .before .args .l .k = omega arith in rw e at (c .before .before .loop .inv .1)
 
 pub put-quadratic-spec : {M : Type 1} → statement M
-put-quadratic-spec = tie.close (tie.spec Inv-loop μ-loop (λ c. (omega arith, no-turn _)) add-cq add-cq-2 cq-requires col-pg-requires put-if-requires (λ c. search needs) (λ c. search needs) loop-again (λ c. len-rows (c .before .before .loop .inv .1)) (λ c. len-cols (c .before .before .loop .inv .1)) (λ c. len-vals (c .before .before .loop .inv .1)) returns)
+put-quadratic-spec = tie.close (tie.spec Inv-loop μ-loop (λ c. (omega arith, no-turn _)) add-cq add-cq-2 cq-requires pg-column-requires put-if-requires (λ c. search needs) (λ c. search needs) loop-again (λ c. len-rows (c .before .before .loop .inv .1)) (λ c. len-cols (c .before .before .loop .inv .1)) (λ c. len-vals (c .before .before .loop .inv .1)) returns)

@@ -9,7 +9,7 @@ use Rattle.bus_columns.proofs.inner.column.put_bound.Tie as tie
 
 returns : tie.Need-returns
 unfolding boundCells
-returns c = (rw (sym (c .before .before .before .before .before .before .before .before .before .before .before .before .before .before .before .before .before .voltage-bound-active .ensures) ∙ c .before .before .before .before .before .before .before .before .before .before .before .before .before .before .before .before .if1 .taken) (then (rw (c .before .before .before .before .before .before .before .before .before .before .before .before .before .before .before .r-wub .ensures) at (c .before .before .before .before .before .before .before .before .before .before .before .put .ensures .0)) (rw (c .before .before .before .before .before .before .before .before .before .before .before .before .before .before .r-wlb .ensures) at (c .before .before .before .before .put2 .ensures .0))), omega arith)
+returns c = (rw (sym (c .before .before .before .before .before .before .before .before .before .before .before .before .before .before .before .before .before .voltage-bound-active .ensures) ∙ c .before .before .before .before .before .before .before .before .before .before .before .before .before .before .before .before .if1 .taken) (then (rw (c .before .before .before .before .before .before .before .before .before .before .before .before .before .before .before .wub-row .ensures) at (c .before .before .before .before .before .before .before .before .before .before .before .put .ensures .0)) (rw (c .before .before .before .before .before .before .before .before .before .before .before .before .before .before .wlb-row .ensures) at (c .before .before .before .before .put2 .ensures .0))), omega arith)
 
 returns-2 : tie.Need-returns-2
 unfolding boundCells

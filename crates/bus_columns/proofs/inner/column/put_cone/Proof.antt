@@ -21,8 +21,8 @@ returns c =
     let a = c .before .before .before .before .before .before .before .before .before .before .before .before .before .before .before .before .before .before .before .before .before .before .args in
     let G = netOf (a .l) (now (a .bytes)) in
     let e : ltb (a .x / 2) (a .l .m) ≡ true = lt-ltb (a .x / 2) (a .l .m) (omega (arith, c .before .before .before .before .before .before .before .before .before .before .before .before .before .before .before .before .before .before .wide .ensures .0, c .before .before .before .before .before .before .before .before .before .before .before .before .before .before .before .before .if1 .taken)) in
-    let q0 : c .before .before .before .before .before .before .before .before .before .before .before .before .before .before .before .r-jabr .result ≡ rowNumber G (Jabr (a .x / 2) 0) = omega (arith, c .before .before .before .before .before .before .before .before .before .before .before .before .before .before .before .r-jabr .ensures, c .before .before .before .before .before .before .before .before .before .before .before .before .before .before .before .before .before .before .wide .ensures .0, c .before .before .before .before .before .before .before .before .before .before .before .before .before .before .before .before .before .before .before .before .before .before .pre .0 .accepted .counts-add) in
-    let q3 : c .before .before .before .before .before .before .before .before .before .before .before .before .before .before .before .r-jabr .result + 3 ≡ rowNumber G (Jabr (a .x / 2) 3) = omega (arith, q0) in
+    let q0 : c .before .before .before .before .before .before .before .before .before .before .before .before .before .before .before .jabr-row .result ≡ rowNumber G (Jabr (a .x / 2) 0) = omega (arith, c .before .before .before .before .before .before .before .before .before .before .before .before .before .before .before .jabr-row .ensures, c .before .before .before .before .before .before .before .before .before .before .before .before .before .before .before .before .before .before .wide .ensures .0, c .before .before .before .before .before .before .before .before .before .before .before .before .before .before .before .before .before .before .before .before .before .before .pre .0 .accepted .counts-add) in
+    let q3 : c .before .before .before .before .before .before .before .before .before .before .before .before .before .before .before .jabr-row .result + 3 ≡ rowNumber G (Jabr (a .x / 2) 3) = omega (arith, q0) in
     (rw e (then (rw q0 at (c .before .before .before .before .before .before .before .before .before .before .before .put .ensures .0)) (rw (q3, c .before .before .before .before .before .before .before .before .before .before .before .before .before .before .last-value .ensures) at (c .before .before .before .before .put2 .ensures .0))), omega arith)
 
 returns-2 : tie.Need-returns-2

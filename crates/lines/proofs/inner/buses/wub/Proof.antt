@@ -6,8 +6,8 @@ use Rattle.lines.proofs.inner.buses.wub.Reads as reads
 use Rattle.lines.proofs.inner.buses.wub.Lts as lts
 use Rattle.lines.proofs.inner.pick.Reads as pick-reads
 use Rattle.lines.proofs.inner.single.Reads as single-reads
-use Rattle.numbering.proofs.inner.col_w.Reads as col-w-reads
-use Rattle.numbering.proofs.inner.r_wub.Reads as r-wub-reads
+use Rattle.numbering.proofs.SocWrLayout.w_column.Reads as w-column-reads
+use Rattle.numbering.proofs.SocWrLayout.wub_row.Reads as wub-row-reads
 use Rattle.records.proofs.inner.vm_max.Reads as vm-max-reads
 use Rattle.records.proofs.inner.voltage_bound_active.Reads as voltage-bound-active-reads
 
@@ -24,12 +24,12 @@ pick-requires : tie.Need-pick-requires
 pick-requires c κs = search needs
 
 -- src/inner/buses.rt:19:12
-r-wub-requires : tie.Need-r-wub-requires
-r-wub-requires c κs = (c .before .before .before .before .pre .0 .range, c .before .before .before .before .pre .1)
+wub-row-requires : tie.Need-wub-row-requires
+wub-row-requires c κs = (c .before .before .before .before .pre .0 .range, c .before .before .before .before .pre .1)
 
 -- src/inner/buses.rt:19:34
-col-w-requires : tie.Need-col-w-requires
-col-w-requires c κs = (c .before .before .before .before .before .pre .0 .range, c .before .before .before .before .before .pre .1)
+w-column-requires : tie.Need-w-column-requires
+w-column-requires c κs = (c .before .before .before .before .before .pre .0 .range, c .before .before .before .before .before .pre .1)
 
 -- src/inner/buses.rt:19:5
 single-requires : tie.Need-single-requires
@@ -37,7 +37,7 @@ single-requires c κs = search needs
 
 -- src/inner/buses.rt:11:1
 returns : tie.Need-returns
-returns c = rw (c .single .ensures, c .before .before .r-wub .ensures, c .before .col-w .ensures, c .before .before .before .pick .ensures, c .before .before .before .before .before .voltage-bound-active .ensures, c .before .before .before .before .vm-max .ensures) (wub-stands _ _ (c .before .before .before .before .before .before .before .pre .0) _ (c .before .before .before .before .before .before .before .pre .1))
+returns c = rw (c .single .ensures, c .before .before .wub-row .ensures, c .before .w-column .ensures, c .before .before .before .pick .ensures, c .before .before .before .before .before .voltage-bound-active .ensures, c .before .before .before .before .vm-max .ensures) (wub-stands _ _ (c .before .before .before .before .before .before .before .pre .0) _ (c .before .before .before .before .before .before .before .pre .1))
 
 pub wub-spec : {M : Type 1} → statement M
 wub-spec =
@@ -46,7 +46,7 @@ wub-spec =
     voltage-bound-active-requires
     vm-max-requires
     pick-requires
-    r-wub-requires
-    col-w-requires
+    wub-row-requires
+    w-column-requires
     single-requires
     returns)

@@ -5,11 +5,11 @@ use native.Mathlib.Omega.{arith}
 use Rattle.lines.proofs.inner.cones.ends.Statement.{statement}
 use Rattle.lines.proofs.inner.cones.ends.Tie as tie
 
-col-w-requires : tie.Need-col-w-requires
-col-w-requires c κs = (c .before .before .before .before .before .before .pre .0 .range, omega (arith, c .before .before .wide .ensures .0, c .before .before .before .br-from .ensures, c .before .before .before .before .before .before .pre .0 .accepted .from-below _ (c .before .before .before .before .before .before .pre .1)))
+w-column-requires : tie.Need-w-column-requires
+w-column-requires c κs = (c .before .before .before .before .before .before .pre .0 .range, omega (arith, c .before .before .wide .ensures .0, c .before .before .before .br-from .ensures, c .before .before .before .before .before .before .pre .0 .accepted .from-below _ (c .before .before .before .before .before .before .pre .1)))
 
-col-w-requires-2 : tie.Need-col-w-requires-2
-col-w-requires-2 c κs = (c .before .before .before .before .before .before .before .before .pre .0 .range, omega (arith, c .before .before .wide2 .ensures .0, c .before .before .before .br-to .ensures, c .before .before .before .before .before .before .before .before .pre .0 .accepted .to-below _ (c .before .before .before .before .before .before .before .before .pre .1)))
+w-column-requires-2 : tie.Need-w-column-requires-2
+w-column-requires-2 c κs = (c .before .before .before .before .before .before .before .before .pre .0 .range, omega (arith, c .before .before .wide2 .ensures .0, c .before .before .before .br-to .ensures, c .before .before .before .before .before .before .before .before .pre .0 .accepted .to-below _ (c .before .before .before .before .before .before .before .before .pre .1)))
 
 returns : tie.Need-returns
 returns c = rw (← c .before .before .before .before .before .before .before .before .before .br-from .ensures, ← c .before .before .before .before .before .before .before .before .wide .ensures .0, ← c .before .before .before .before .before .before .before .br-to .ensures, ← c .before .before .before .before .before .before .wide2 .ensures .0, ends-up _ _ _ _ _ (c .before .if1 .taken)) cc
@@ -18,4 +18,4 @@ returns-2 : tie.Need-returns-2
 returns-2 c = rw (← c .before .before .before .before .before .before .before .before .before .br-from .ensures, ← c .before .before .before .before .before .before .before .before .wide .ensures .0, ← c .before .before .before .before .before .before .before .br-to .ensures, ← c .before .before .before .before .before .before .wide2 .ensures .0, ends-down _ _ _ _ _ (c .before .if1 .left)) cc
 
 pub ends-spec : {M : Type 1} → statement M
-ends-spec = tie.close (tie.spec (λ c. search needs) (λ c κs. search needs) (λ c κs. search needs) (λ c κs. search needs) (λ c κs. search needs) col-w-requires (λ c κs. search needs) col-w-requires-2 (λ c κs. search needs) (λ c κs. search needs) returns (λ c κs. search needs) returns-2)
+ends-spec = tie.close (tie.spec (λ c. search needs) (λ c κs. search needs) (λ c κs. search needs) (λ c κs. search needs) (λ c κs. search needs) w-column-requires (λ c κs. search needs) w-column-requires-2 (λ c κs. search needs) (λ c κs. search needs) returns (λ c κs. search needs) returns-2)

@@ -4,14 +4,14 @@ use borrow.Author.Needs.{needs}
 use Rattle.lines.proofs.inner.generators.pglb.Statement.{statement}
 use Rattle.lines.proofs.inner.generators.pglb.Tie as tie
 
-r-pglb-requires : tie.Need-r-pglb-requires
-r-pglb-requires c κs = (c .before .before .before .before .before .pre .0 .range, c .before .before .before .before .before .pre .1)
+pglb-row-requires : tie.Need-pglb-row-requires
+pglb-row-requires c κs = (c .before .before .before .before .before .pre .0 .range, c .before .before .before .before .before .pre .1)
 
-col-pg-requires : tie.Need-col-pg-requires
-col-pg-requires c κs = (c .before .before .before .before .before .before .pre .0 .range, c .before .before .before .before .before .before .pre .1)
+pg-column-requires : tie.Need-pg-column-requires
+pg-column-requires c κs = (c .before .before .before .before .before .before .pre .0 .range, c .before .before .before .before .before .before .pre .1)
 
 returns : tie.Need-returns
-returns c = rw (c .single .ensures, c .before .before .r-pglb .ensures, c .before .col-pg .ensures, c .before .before .before .pick .ensures, c .before .before .before .before .before .generator-capability-active .ensures, c .before .before .before .before .pmin .ensures) (pglb-stands _ _ (c .before .before .before .before .before .before .before .before .pre .0) _ (c .before .before .before .before .before .before .before .before .pre .1))
+returns c = rw (c .single .ensures, c .before .before .pglb-row .ensures, c .before .pg-column .ensures, c .before .before .before .pick .ensures, c .before .before .before .before .before .generator-capability-active .ensures, c .before .before .before .before .pmin .ensures) (pglb-stands _ _ (c .before .before .before .before .before .before .before .before .pre .0) _ (c .before .before .before .before .before .before .before .before .pre .1))
 
 pub pglb-spec : {M : Type 1} → statement M
-pglb-spec = tie.close (tie.spec (λ c. search needs) (λ c. search needs) (λ c κs. search needs) (λ c κs. search needs) (λ c κs. search needs) r-pglb-requires col-pg-requires (λ c κs. search needs) returns)
+pglb-spec = tie.close (tie.spec (λ c. search needs) (λ c. search needs) (λ c κs. search needs) (λ c κs. search needs) (λ c κs. search needs) pglb-row-requires pg-column-requires (λ c κs. search needs) returns)

@@ -4,14 +4,14 @@ use borrow.Author.Needs.{needs}
 use Rattle.lines.proofs.inner.generators.pgub.Statement.{statement}
 use Rattle.lines.proofs.inner.generators.pgub.Tie as tie
 
-r-pgub-requires : tie.Need-r-pgub-requires
-r-pgub-requires c κs = (c .before .before .before .before .before .pre .0 .range, c .before .before .before .before .before .pre .1)
+pgub-row-requires : tie.Need-pgub-row-requires
+pgub-row-requires c κs = (c .before .before .before .before .before .pre .0 .range, c .before .before .before .before .before .pre .1)
 
-col-pg-requires : tie.Need-col-pg-requires
-col-pg-requires c κs = (c .before .before .before .before .before .before .pre .0 .range, c .before .before .before .before .before .before .pre .1)
+pg-column-requires : tie.Need-pg-column-requires
+pg-column-requires c κs = (c .before .before .before .before .before .before .pre .0 .range, c .before .before .before .before .before .before .pre .1)
 
 returns : tie.Need-returns
-returns c = rw (c .single .ensures, c .before .before .r-pgub .ensures, c .before .col-pg .ensures, c .before .before .before .pick .ensures, c .before .before .before .before .before .generator-capability-active .ensures, c .before .before .before .before .pmax .ensures) (pgub-stands _ _ (c .before .before .before .before .before .before .before .before .pre .0) _ (c .before .before .before .before .before .before .before .before .pre .1))
+returns c = rw (c .single .ensures, c .before .before .pgub-row .ensures, c .before .pg-column .ensures, c .before .before .before .pick .ensures, c .before .before .before .before .before .generator-capability-active .ensures, c .before .before .before .before .pmax .ensures) (pgub-stands _ _ (c .before .before .before .before .before .before .before .before .pre .0) _ (c .before .before .before .before .before .before .before .before .pre .1))
 
 pub pgub-spec : {M : Type 1} → statement M
-pgub-spec = tie.close (tie.spec (λ c. search needs) (λ c. search needs) (λ c κs. search needs) (λ c κs. search needs) (λ c κs. search needs) r-pgub-requires col-pg-requires (λ c κs. search needs) returns)
+pgub-spec = tie.close (tie.spec (λ c. search needs) (λ c. search needs) (λ c κs. search needs) (λ c κs. search needs) (λ c κs. search needs) pgub-row-requires pg-column-requires (λ c κs. search needs) returns)

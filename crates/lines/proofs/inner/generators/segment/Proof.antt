@@ -20,13 +20,13 @@ cast-row : tie.Need-cast-row
 cast-row c = let q = c .before .before .before .before .pre .0 .range in let w = segments-in _ _ (c .before .before .before .before .pre .0) _ _ _ _ (c .before .before .before .before .pre .1 .0 .0) (c .before .before .before .before .pre .1 .0 .1) (c .before .before .before .before .pre .1 .1 .0) (c .before .before .before .before .pre .1 .1 .1) in omega arith
 
 add-row-2 : tie.Need-add-row-2
-add-row-2 c = let q = c .before .before .before .before .pre .0 .range in let w = segments-in _ _ (c .before .before .before .before .pre .0) _ _ _ _ (c .before .before .before .before .pre .1 .0 .0) (c .before .before .before .before .pre .1 .0 .1) (c .before .before .before .before .pre .1 .1 .0) (c .before .before .before .before .pre .1 .1 .1) in omega (arith, c .segment-base .ensures)
+add-row-2 c = let q = c .before .before .before .before .pre .0 .range in let w = segments-in _ _ (c .before .before .before .before .pre .0) _ _ _ _ (c .before .before .before .before .pre .1 .0 .0) (c .before .before .before .before .pre .1 .0 .1) (c .before .before .before .before .pre .1 .1 .0) (c .before .before .before .before .pre .1 .1 .1) in omega (arith, c .segment-row .ensures)
 
 cast-col : tie.Need-cast-col
 cast-col c = let q = c .before .before .before .before .before .pre .0 .range in let w = segments-in _ _ (c .before .before .before .before .before .pre .0) _ _ _ _ (c .before .before .before .before .before .pre .1 .0 .0) (c .before .before .before .before .before .pre .1 .0 .1) (c .before .before .before .before .before .pre .1 .1 .0) (c .before .before .before .before .before .pre .1 .1 .1) in omega arith
 
 add-col : tie.Need-add-col
-add-col c = let q = c .before .before .before .before .before .pre .0 .range in let w = segments-in _ _ (c .before .before .before .before .before .pre .0) _ _ _ _ (c .before .before .before .before .before .pre .1 .0 .0) (c .before .before .before .before .before .pre .1 .0 .1) (c .before .before .before .before .before .pre .1 .1 .0) (c .before .before .before .before .before .pre .1 .1 .1) in omega (arith, c .cost-base .ensures)
+add-col c = let q = c .before .before .before .before .before .pre .0 .range in let w = segments-in _ _ (c .before .before .before .before .before .pre .0) _ _ _ _ (c .before .before .before .before .before .pre .1 .0 .0) (c .before .before .before .before .before .pre .1 .0 .1) (c .before .before .before .before .before .pre .1 .1 .0) (c .before .before .before .before .before .pre .1 .1 .1) in omega (arith, c .cost-column .ensures)
 
 slope-requires : tie.Need-slope-requires
 slope-requires c κs = let w = segments-in _ _ (c .before .before .before .before .before .pre .0) _ _ _ _ (c .before .before .before .before .before .pre .1 .0 .0) (c .before .before .before .before .before .pre .1 .0 .1) (c .before .before .before .before .before .pre .1 .1 .0) (c .before .before .before .before .before .pre .1 .1 .1) in omega (arith, c .before .before .before .before .before .pre .0 .accepted .size)
@@ -34,14 +34,14 @@ slope-requires c κs = let w = segments-in _ _ (c .before .before .before .befor
 intercept-requires : tie.Need-intercept-requires
 intercept-requires c κs = let w = segments-in _ _ (c .before .before .before .before .before .before .pre .0) _ _ _ _ (c .before .before .before .before .before .before .pre .1 .0 .0) (c .before .before .before .before .before .before .pre .1 .0 .1) (c .before .before .before .before .before .before .pre .1 .1 .0) (c .before .before .before .before .before .before .pre .1 .1 .1) in omega (arith, c .before .before .before .before .before .before .pre .0 .accepted .size)
 
-col-pg-requires : tie.Need-col-pg-requires
-col-pg-requires c κs = (c .before .before .before .before .before .before .before .pre .0 .range, c .before .before .before .before .before .before .before .pre .1 .0 .0)
+pg-column-requires : tie.Need-pg-column-requires
+pg-column-requires c κs = (c .before .before .before .before .before .before .before .pre .0 .range, c .before .before .before .before .before .before .before .pre .1 .0 .0)
 
 returns : tie.Need-returns
 unfolding segmentRecord
 returns c =
-    rw (c .line .ensures, c .before .before .spot .ensures, c .before .spot2 .ensures, c .before .before .before .col-pg .ensures, c .before .before .before .before .before .slope .ensures, c .before .before .before .before .intercept .ensures, c .before .before .before .before .before .before .before .before .before .before .before .pre .1 .1 .0)
-    (segment-stands _ _ (c .before .before .before .before .before .before .before .before .before .before .before .pre .0) _ _ _ _ (c .before .before .before .before .before .before .before .before .before .before .before .pre .1 .0 .0) (c .before .before .before .before .before .before .before .before .before .before .before .pre .1 .0 .1) (segment-row _ _ (c .before .before .before .before .before .before .before .before .before .before .before .pre .0) _ _ _ _ (c .before .before .before .before .before .before .before .segment-base .ensures) refl) (cost-column _ _ (c .before .before .before .before .before .before .before .before .before .before .before .pre .0) _ _ _ (c .before .before .before .before .before .before .cost-base .ensures) (c .before .before .before .before .before .before .before .before .before .before .before .pre .1 .1 .1)))
+    rw (c .line .ensures, c .before .before .spot .ensures, c .before .spot2 .ensures, c .before .before .before .pg-column .ensures, c .before .before .before .before .before .slope .ensures, c .before .before .before .before .intercept .ensures, c .before .before .before .before .before .before .before .before .before .before .before .pre .1 .1 .0)
+    (segment-stands _ _ (c .before .before .before .before .before .before .before .before .before .before .before .pre .0) _ _ _ _ (c .before .before .before .before .before .before .before .before .before .before .before .pre .1 .0 .0) (c .before .before .before .before .before .before .before .before .before .before .before .pre .1 .0 .1) (segment-row _ _ (c .before .before .before .before .before .before .before .before .before .before .before .pre .0) _ _ _ _ (c .before .before .before .before .before .before .before .segment-row .ensures) refl) (cost-column _ _ (c .before .before .before .before .before .before .before .before .before .before .before .pre .0) _ _ _ (c .before .before .before .before .before .before .cost-column .ensures) (c .before .before .before .before .before .before .before .before .before .before .before .pre .1 .1 .1)))
 
 pub segment-spec : {M : Type 1} → statement M
-segment-spec = tie.close (tie.spec (λ c. search needs) (λ c. search needs) add-r-3 add-r-4 (λ c κs. c .before .before .before .pre .0 .range) add-row cast-row add-row-2 (λ c κs. c .before .before .before .before .pre .0 .range) cast-col add-col slope-requires intercept-requires col-pg-requires (λ c κs. search needs) (λ c κs. search needs) (λ c κs. search needs) returns)
+segment-spec = tie.close (tie.spec (λ c. search needs) (λ c. search needs) add-r-3 add-r-4 (λ c κs. c .before .before .before .pre .0 .range) add-row cast-row add-row-2 (λ c κs. c .before .before .before .before .pre .0 .range) cast-col add-col slope-requires intercept-requires pg-column-requires (λ c κs. search needs) (λ c κs. search needs) (λ c κs. search needs) returns)

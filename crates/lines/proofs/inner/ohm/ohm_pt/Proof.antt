@@ -6,18 +6,18 @@ use native.Mathlib.Omega.{arith}
 use Rattle.lines.proofs.inner.ohm.ohm_pt.Statement.{statement}
 use Rattle.lines.proofs.inner.ohm.ohm_pt.Tie as tie
 
-r-ohm-pt-requires : tie.Need-r-ohm-pt-requires
-r-ohm-pt-requires c κs = (c .before .before .before .before .before .before .before .before .before .before .before .before .before .before .before .pre .0 .range, c .before .before .before .before .before .before .before .before .before .before .before .before .before .before .before .pre .1)
+ohm-pt-row-requires : tie.Need-ohm-pt-row-requires
+ohm-pt-row-requires c κs = (c .before .before .before .before .before .before .before .before .before .before .before .before .before .before .before .pre .0 .range, c .before .before .before .before .before .before .before .before .before .before .before .before .before .before .before .pre .1)
 
-col-pt-requires : tie.Need-col-pt-requires
-col-pt-requires c κs = (c .before .before .before .before .before .before .before .before .before .before .before .before .before .before .before .before .pre .0 .range, c .before .before .before .before .before .before .before .before .before .before .before .before .before .before .before .before .pre .1)
+pt-column-requires : tie.Need-pt-column-requires
+pt-column-requires c κs = (c .before .before .before .before .before .before .before .before .before .before .before .before .before .before .before .before .pre .0 .range, c .before .before .before .before .before .before .before .before .before .before .before .before .before .before .before .before .pre .1)
 
 ohm-requires : tie.Need-ohm-requires
 ohm-requires c κs = (c .before .before .before .before .before .before .before .before .before .before .before .before .before .before .before .before .before .pre .0 .range, (c .before .before .before .before .before .before .before .before .before .before .before .before .before .before .before .before .before .pre .1, omega (arith, c .before .before .wide .ensures .0, c .before .before .before .br-to .ensures, c .before .before .before .before .before .before .before .before .before .before .before .before .before .before .before .before .before .pre .0 .accepted .to-below _ (c .before .before .before .before .before .before .before .before .before .before .before .before .before .before .before .before .before .pre .1))))
 
 returns : tie.Need-returns
 unfolding branchOf
-returns c = rw (c .ohm .ensures, c .before .before .r-ohm-pt .ensures, c .before .col-pt .ensures, c .before .before .before .wide .ensures .0, c .before .before .before .before .br-to .ensures, c .before .before .before .before .before .before .before .before .before .before .before .before .before .before .before .series .ensures, c .before .before .before .before .before .before .before .before .before .before .before .before .before .before .g-to .ensures) (pt-stands _ _ (c .before .before .before .before .before .before .before .before .before .before .before .before .before .before .before .before .before .before .pre .0) _ (c .before .before .before .before .before .before .before .before .before .before .before .before .before .before .before .before .before .before .pre .1))
+returns c = rw (c .ohm .ensures, c .before .before .ohm-pt-row .ensures, c .before .pt-column .ensures, c .before .before .before .wide .ensures .0, c .before .before .before .before .br-to .ensures, c .before .before .before .before .before .before .before .before .before .before .before .before .before .before .before .series .ensures, c .before .before .before .before .before .before .before .before .before .before .before .before .before .before .g-to .ensures) (pt-stands _ _ (c .before .before .before .before .before .before .before .before .before .before .before .before .before .before .before .before .before .before .pre .0) _ (c .before .before .before .before .before .before .before .before .before .before .before .before .before .before .before .before .before .before .pre .1))
 
 pub ohm-pt-spec : {M : Type 1} → statement M
-ohm-pt-spec = tie.close (tie.spec (λ c. search needs) (λ c κs. search needs) (λ c κs. search needs) (λ c κs. search needs) (λ c κs. search needs) r-ohm-pt-requires col-pt-requires ohm-requires returns)
+ohm-pt-spec = tie.close (tie.spec (λ c. search needs) (λ c κs. search needs) (λ c κs. search needs) (λ c κs. search needs) (λ c κs. search needs) ohm-pt-row-requires pt-column-requires ohm-requires returns)

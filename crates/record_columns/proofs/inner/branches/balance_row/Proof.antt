@@ -4,10 +4,10 @@ use Rattle.record_columns.proofs.inner.branches.balance_row.Statement.{
 use Rattle.record_columns.proofs.inner.branches.balance_row.Tie as tie
 
 returns : tie.Need-returns
-returns c = rw (c .before .enum-told .given .1) (c .r-pbal .ensures)
+returns c = rw (c .before .enum-told .given .1) (c .pbal-row .ensures)
 
 returns-2 : tie.Need-returns-2
-returns-2 c = rw (c .before .enum-told2 .given .1) (c .r-qbal .ensures)
+returns-2 c = rw (c .before .enum-told2 .given .1) (c .qbal-row .ensures)
 
 returns-3 : tie.Need-returns-3
 returns-3 c = rw (c .before .enum-told3 .given .1) (c .r-pbal2 .ensures)

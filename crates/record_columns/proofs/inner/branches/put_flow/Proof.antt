@@ -15,7 +15,7 @@ use Rattle.record_columns.proofs.inner.branches.put_flow.Statement.{sta
 use Rattle.record_columns.proofs.inner.branches.put_flow.Tie as tie
 
 add-thermal : tie.Need-add-thermal
-add-thermal c = omega (arith, c .before .thermal-base .ensures, c .thermal-place .ensures .1, c .before .before .before .before .before .pre .1, c .before .before .before .before .before .pre .0 .range .n-range, c .before .before .before .before .before .pre .0 .range .m-range, c .before .before .before .before .before .pre .0 .range .k-range, c .before .before .before .before .before .pre .0 .range .s-range)
+add-thermal c = omega (arith, c .before .thermal-row .ensures, c .thermal-place .ensures .1, c .before .before .before .before .before .pre .1, c .before .before .before .before .before .pre .0 .range .n-range, c .before .before .before .before .before .pre .0 .range .m-range, c .before .before .before .before .before .pre .0 .range .k-range, c .before .before .before .before .before .pre .0 .range .s-range)
 
 balance-row-requires : tie.Need-balance-row-requires
 balance-row-requires c κs = (c .before .before .before .before .before .before .before .before .pre .0, c .end-bus .ensures .1)
@@ -27,8 +27,8 @@ returns c =
     let b = now (a .bytes) in
     let G = netOf (a .l) b in
     let k = rowKind (a .q) in
-    let t : c .before .before .before .before .before .before .before .before .before .before .before .before .before .thermal-base .result + 6 * a .rank + c .before .before .before .before .before .before .before .before .before .before .before .before .thermal-place .result ≡ rowNumber G (Thermal (a .e) (thermalPlace k)) =
-    omega (arith, c .before .before .before .before .before .before .before .before .before .before .before .before .before .thermal-base .ensures, c .before .before .before .before .before .before .before .before .before .before .before .before .before .before .before .before .before .pre .1 .1 .0, c .before .before .before .before .before .before .before .before .before .before .before .before .thermal-place .ensures .0, thermal-row (a .l) b (c .before .before .before .before .before .before .before .before .before .before .before .before .before .before .before .before .before .pre .0) (a .e) (thermalPlace k)) in
+    let t : c .before .before .before .before .before .before .before .before .before .before .before .before .before .thermal-row .result + 6 * a .rank + c .before .before .before .before .before .before .before .before .before .before .before .before .thermal-place .result ≡ rowNumber G (Thermal (a .e) (thermalPlace k)) =
+    omega (arith, c .before .before .before .before .before .before .before .before .before .before .before .before .before .thermal-row .ensures, c .before .before .before .before .before .before .before .before .before .before .before .before .before .before .before .before .before .pre .1 .1 .0, c .before .before .before .before .before .before .before .before .before .before .before .before .thermal-place .ensures .0, thermal-row (a .l) b (c .before .before .before .before .before .before .before .before .before .before .before .before .before .before .before .before .before .pre .0) (a .e) (thermalPlace k)) in
     let u = c .before .before .before .before .before .before .before .before .balance-row .ensures ∙ ap (λ (i : ℕ). rowNumber G (balanceRow k i)) (c .before .before .before .before .before .before .before .before .before .end-bus .ensures .0) in
     (rw (u, c .before .before .before .before .before .before .before .ohm-row .ensures, c .before .before .before .before .before .before .before .before .before .before .thermal-limit-active .ensures, t) at (c .before .before .before .before .put-flow-cells .ensures .0), c .before .before .before .before .put-flow-cells .ensures .1)
 

@@ -18,7 +18,7 @@ put-nonzero-requires-4 c κs = omega (arith, c .before .before .before .before .
 returns : tie.Need-returns
 unfolding products
 returns c =
-    (then (then (then (rw (c .before .before .before .before .before .before .before .before .before .before .before .before .before .before .before .before .before .before .before .before .before .before .before .before .before .before .before .before .before .before .before .r-ohm-pf .ensures) at (c .before .before .before .before .before .before .before .before .before .before .before .before .before .before .before .before .before .before .before .before .before .before .before .before .before .put-nonzero .ensures .0)) (rw (c .before .before .before .before .before .before .before .before .before .before .before .before .before .before .before .before .before .before .before .before .before .before .before .before .before .before .before .before .before .before .r-ohm-qf .ensures) at (c .before .before .before .before .before .before .before .before .before .before .before .before .before .before .before .before .before .before .put-nonzero2 .ensures .0))) (rw (c .before .before .before .before .before .before .before .before .before .before .before .before .before .before .before .before .before .before .before .before .before .before .before .before .before .before .before .before .before .r-ohm-pt .ensures) at (c .before .before .before .before .before .before .before .before .before .before .before .put-nonzero3 .ensures .0))) (rw (c .before .before .before .before .before .before .before .before .before .before .before .before .before .before .before .before .before .before .before .before .before .before .before .before .before .before .before .before .r-ohm-qt .ensures) at (c .before .before .before .before .put-nonzero4 .ensures .0)), omega (arith, c .before .before .before .before .before .before .before .before .before .before .before .before .before .before .before .before .before .before .before .before .before .before .before .before .before .put-nonzero .ensures .1, c .before .before .before .before .before .before .before .before .before .before .before .before .before .before .before .before .before .before .put-nonzero2 .ensures .1, c .before .before .before .before .before .before .before .before .before .before .before .put-nonzero3 .ensures .1, c .before .before .before .before .put-nonzero4 .ensures .1))
+    (then (then (then (rw (c .before .before .before .before .before .before .before .before .before .before .before .before .before .before .before .before .before .before .before .before .before .before .before .before .before .before .before .before .before .before .before .ohm-pf-row .ensures) at (c .before .before .before .before .before .before .before .before .before .before .before .before .before .before .before .before .before .before .before .before .before .before .before .before .before .put-nonzero .ensures .0)) (rw (c .before .before .before .before .before .before .before .before .before .before .before .before .before .before .before .before .before .before .before .before .before .before .before .before .before .before .before .before .before .before .ohm-qf-row .ensures) at (c .before .before .before .before .before .before .before .before .before .before .before .before .before .before .before .before .before .before .put-nonzero2 .ensures .0))) (rw (c .before .before .before .before .before .before .before .before .before .before .before .before .before .before .before .before .before .before .before .before .before .before .before .before .before .before .before .before .before .ohm-pt-row .ensures) at (c .before .before .before .before .before .before .before .before .before .before .before .put-nonzero3 .ensures .0))) (rw (c .before .before .before .before .before .before .before .before .before .before .before .before .before .before .before .before .before .before .before .before .before .before .before .before .before .before .before .before .ohm-qt-row .ensures) at (c .before .before .before .before .put-nonzero4 .ensures .0)), omega (arith, c .before .before .before .before .before .before .before .before .before .before .before .before .before .before .before .before .before .before .before .before .before .before .before .before .before .put-nonzero .ensures .1, c .before .before .before .before .before .before .before .before .before .before .before .before .before .before .before .before .before .before .put-nonzero2 .ensures .1, c .before .before .before .before .before .before .before .before .before .before .before .put-nonzero3 .ensures .1, c .before .before .before .before .put-nonzero4 .ensures .1))
 
 pub put-products-spec : {M : Type 1} → statement M
 put-products-spec = tie.close (tie.spec (λ c κs. search needs) (λ c κs. search needs) (λ c κs. search needs) (λ c κs. search needs) (λ c κs. search needs) put-nonzero-requires-2 put-nonzero-requires-3 put-nonzero-requires-4 (λ c. search needs) (λ c. search needs) returns)

@@ -26,7 +26,7 @@ returns c =
     let a = c .before .before .before .before .before .before .before .before .before .before .before .before .before .before .before .before .before .before .before .before .before .before .before .before .before .before .before .before .args in
     let b = now (a .bytes) in
     let p = wr-are (a .l) b (a .e) (c .before .before .before .before .before .before .before .before .before .before .before .before .before .before .before .before .before .before .before .before .before .before .wr-products .ensures) (c .before .before .before .before .before .before .before .before .before .before .before .before .before .before .before .before .before .before .before .before .before .before .before .series .ensures) in
-    let j : c .before .before .before .before .before .before .before .before .before .before .before .before .before .before .before .before .before .before .before .before .before .r-jabr .result + 1 ≡ rowNumber (netOf (a .l) b) (Jabr (a .e) 1) = omega (arith, c .before .before .before .before .before .before .before .before .before .before .before .before .before .before .before .before .before .before .before .before .before .r-jabr .ensures, c .before .before .before .before .before .before .before .before .before .before .before .before .before .before .before .before .before .before .before .before .before .before .before .before .before .before .before .before .pre .0 .accepted .counts-add) in
+    let j : c .before .before .before .before .before .before .before .before .before .before .before .before .before .before .before .before .before .before .before .before .before .jabr-row .result + 1 ≡ rowNumber (netOf (a .l) b) (Jabr (a .e) 1) = omega (arith, c .before .before .before .before .before .before .before .before .before .before .before .before .before .before .before .before .before .before .before .before .before .jabr-row .ensures, c .before .before .before .before .before .before .before .before .before .before .before .before .before .before .before .before .before .before .before .before .before .before .before .before .before .before .before .before .pre .0 .accepted .counts-add) in
     (then (then (rw p at (c .before .before .before .before .before .before .before .before .before .before .before .before .before .before .before .before .before .before .put-products .ensures .0)) (c .before .before .before .before .before .before .before .before .before .before .before .put-wr-angles .ensures .0)) (rw j at (c .before .before .before .before .put .ensures .0)), omega (arith, c .before .before .before .before .before .before .before .before .before .before .before .before .before .before .before .before .before .before .put-products .ensures .1, c .before .before .before .before .before .before .before .before .before .before .before .put-wr-angles .ensures .1, c .before .before .before .before .put .ensures .1))
 
 pub put-wr-spec : {M : Type 1} → statement M

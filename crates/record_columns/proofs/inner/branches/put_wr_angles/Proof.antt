@@ -10,7 +10,7 @@ use Rattle.record_columns.proofs.inner.branches.put_wr_angles.Tie as ti
 returns : tie.Need-returns
 unfolding wrAngles
 returns c =
-    (rw (sym (c .before .before .before .before .before .before .before .before .before .before .before .before .before .before .before .before .before .before .before .conic-angle-bound-active .ensures) ∙ c .before .before .before .before .before .before .before .before .before .before .before .before .before .before .before .before .before .before .if1 .taken) (then (rw (c .before .before .before .before .before .before .before .before .before .before .before .before .before .before .before .before .before .r-angub .ensures, c .before .before .before .before .before .before .before .before .before .before .before .before .before .before .before .tan-angmax .ensures) at (c .before .before .before .before .before .before .before .before .before .before .before .put-nonzero .ensures .0)) (rw (c .before .before .before .before .before .before .before .before .before .before .before .before .before .before .before .before .r-anglb .ensures, c .before .before .before .before .before .before .before .before .before .before .before .before .before .before .tan-angmin .ensures) at (c .before .before .before .before .put-nonzero2 .ensures .0))), omega arith)
+    (rw (sym (c .before .before .before .before .before .before .before .before .before .before .before .before .before .before .before .before .before .before .before .conic-angle-bound-active .ensures) ∙ c .before .before .before .before .before .before .before .before .before .before .before .before .before .before .before .before .before .before .if1 .taken) (then (rw (c .before .before .before .before .before .before .before .before .before .before .before .before .before .before .before .before .before .angub-row .ensures, c .before .before .before .before .before .before .before .before .before .before .before .before .before .before .before .tan-angmax .ensures) at (c .before .before .before .before .before .before .before .before .before .before .before .put-nonzero .ensures .0)) (rw (c .before .before .before .before .before .before .before .before .before .before .before .before .before .before .before .before .anglb-row .ensures, c .before .before .before .before .before .before .before .before .before .before .before .before .before .before .tan-angmin .ensures) at (c .before .before .before .before .put-nonzero2 .ensures .0))), omega arith)
 
 returns-2 : tie.Need-returns-2
 unfolding wrAngles

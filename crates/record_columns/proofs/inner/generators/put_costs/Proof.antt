@@ -28,7 +28,7 @@ abbrev μ-loop : tie.MeasureT-loop
 
 loop-holds : tie.Need-loop-holds Inv-loop μ-loop
 unfolding upTo
-loop-holds c = (omega arith, refl, c .before .before .before .segment-base .ensures, refl, omega arith, omega arith, columns-start (costTurn (netOf (c .before .before .before .before .before .before .before .before .args .l) (now (c .before .before .before .before .before .before .before .before .args .bytes)))))
+loop-holds c = (omega arith, refl, c .before .before .before .segment-row .ensures, refl, omega arith, omega arith, columns-start (costTurn (netOf (c .before .before .before .before .before .before .before .before .args .l) (now (c .before .before .before .before .before .before .before .before .args .bytes)))))
 
 add-put-cost : tie.Need-add-put-cost Inv-loop μ-loop
 add-put-cost c =
@@ -74,7 +74,7 @@ loop-again c =
     let h = segments-next (a .l) b r (c .before .before .before .before .before .before .before .before .before .before .before .before .before .before .before .loop .g) (omega arith) in
     let n = c .before .before .before .before .before .before .before .before .before .before .before .segments .ensures .0 in
     let p : c .before .before .before .before .before .before .before .before .before .before .before .before .piecewise .result ≡ netOf (a .l) b .piecewise (c .before .before .before .before .before .before .before .before .before .before .before .before .before .before .before .loop .g) = c .before .before .before .before .before .before .before .before .before .before .before .before .piecewise .ensures in
-    let q : c .before .before .before .before .before .before .before .before .before .before .before .before .before .before .before .before .before .before .before .segment-base .result + c .before .before .before .before .before .before .before .before .before .before .before .before .before .before .before .loop .seg ≡ before (layoutRows (a .l)) 14 + sum (c .before .before .before .before .before .before .before .before .before .before .before .before .before .before .before .loop .g) (netOf (a .l) b .segments) = omega (arith, c .before .before .before .before .before .before .before .before .before .before .before .before .before .before .before .loop .inv .2, c .before .before .before .before .before .before .before .before .before .before .before .before .before .before .before .loop .inv .3) in
+    let q : c .before .before .before .before .before .before .before .before .before .before .before .before .before .before .before .before .before .before .before .segment-row .result + c .before .before .before .before .before .before .before .before .before .before .before .before .before .before .before .loop .seg ≡ before (layoutRows (a .l)) 14 + sum (c .before .before .before .before .before .before .before .before .before .before .before .before .before .before .before .loop .g) (netOf (a .l) b .segments) = omega (arith, c .before .before .before .before .before .before .before .before .before .before .before .before .before .before .before .loop .inv .2, c .before .before .before .before .before .before .before .before .before .before .before .before .before .before .before .loop .inv .3) in
     let e = costs-are (a .l) b (c .before .before .before .before .before .before .before .before .before .before .before .before .before .before .before .loop .g) q n in
     let w = rw (p, e) at (c .before .before .before .before .before .before .before .put-cost .ensures .0) in (
       omega arith,

@@ -13,15 +13,15 @@ use Rattle.record_columns.specs.Writers.{bounds, pgHead}
 use Rattle.record_columns.proofs.inner.generators.put_pg_head.Statement.{statement}
 use Rattle.record_columns.proofs.inner.generators.put_pg_head.Tie as tie
 
-r-pbal-requires : tie.Need-r-pbal-requires
-r-pbal-requires c κs = (c .before .before .before .before .before .before .pre .0 .range, rw (c .before .gen-bus .ensures) (c .before .before .before .before .before .before .pre .0 .accepted .bus-below (c .before .before .before .before .before .before .args .g) (c .before .before .before .before .before .before .pre .1 .0)))
+pbal-row-requires : tie.Need-pbal-row-requires
+pbal-row-requires c κs = (c .before .before .before .before .before .before .pre .0 .range, rw (c .before .gen-bus .ensures) (c .before .before .before .before .before .before .pre .0 .accepted .bus-below (c .before .before .before .before .before .before .args .g) (c .before .before .before .before .before .before .pre .1 .0)))
 
 returns : tie.Need-returns
 unfolding pgHead bounds
 returns c =
     let a = c .before .before .before .before .before .before .before .before .before .before .before .before .before .before .before .before .before .before .before .before .before .before .before .args in
-    let q : c .before .before .before .before .before .before .before .before .before .before .before .before .before .before .before .before .r-pbal .result ≡ layoutRow (a .l) (Pbal (netOf (a .l) (now (a .bytes)) .genBus (a .g))) = c .before .before .before .before .before .before .before .before .before .before .before .before .before .before .before .before .r-pbal .ensures ∙ ap (λ (i : ℕ). layoutRow (a .l) (Pbal i)) (c .before .before .before .before .before .before .before .before .before .before .before .before .before .before .before .before .before .before .gen-bus .ensures) in
-    (then (rw q at (c .before .before .before .before .before .before .before .before .before .before .before .put .ensures .0)) (rw (c .before .before .before .before .before .before .before .before .before .before .before .before .before .before .before .before .before .generator-capability-active .ensures, c .before .before .before .before .before .before .before .before .before .before .before .before .before .before .before .r-pgub .ensures, c .before .before .before .before .before .before .before .before .before .before .before .before .before .before .r-pglb .ensures) at (c .before .before .before .before .put-bounds .ensures .0)), omega arith)
+    let q : c .before .before .before .before .before .before .before .before .before .before .before .before .before .before .before .before .pbal-row .result ≡ layoutRow (a .l) (Pbal (netOf (a .l) (now (a .bytes)) .genBus (a .g))) = c .before .before .before .before .before .before .before .before .before .before .before .before .before .before .before .before .pbal-row .ensures ∙ ap (λ (i : ℕ). layoutRow (a .l) (Pbal i)) (c .before .before .before .before .before .before .before .before .before .before .before .before .before .before .before .before .before .before .gen-bus .ensures) in
+    (then (rw q at (c .before .before .before .before .before .before .before .before .before .before .before .put .ensures .0)) (rw (c .before .before .before .before .before .before .before .before .before .before .before .before .before .before .before .before .before .generator-capability-active .ensures, c .before .before .before .before .before .before .before .before .before .before .before .before .before .before .before .pgub-row .ensures, c .before .before .before .before .before .before .before .before .before .before .before .before .before .before .pglb-row .ensures) at (c .before .before .before .before .put-bounds .ensures .0)), omega arith)
 
 pub put-pg-head-spec : {M : Type 1} → statement M
-put-pg-head-spec = tie.close (tie.spec (λ c. search needs) (λ c. search needs) (λ c κs. search needs) (λ c κs. search needs) (λ c. search needs) r-pbal-requires (λ c κs. search needs) (λ c κs. search needs) (λ c κs. search needs) (λ c κs. search needs) (λ c. search needs) (λ c. search needs) returns)
+put-pg-head-spec = tie.close (tie.spec (λ c. search needs) (λ c. search needs) (λ c κs. search needs) (λ c κs. search needs) (λ c. search needs) pbal-row-requires (λ c κs. search needs) (λ c κs. search needs) (λ c κs. search needs) (λ c κs. search needs) (λ c. search needs) (λ c. search needs) returns)

@@ -14,15 +14,15 @@ use Rattle.record_columns.specs.Writers.{bounds}
 use Rattle.record_columns.proofs.inner.generators.put_qg.Statement.{statement}
 use Rattle.record_columns.proofs.inner.generators.put_qg.Tie as tie
 
-r-qbal-requires : tie.Need-r-qbal-requires
-r-qbal-requires c κs = (c .before .before .before .before .before .before .pre .0 .range, rw (c .before .gen-bus .ensures) (c .before .before .before .before .before .before .pre .0 .accepted .bus-below (c .before .before .before .before .before .before .args .g) (c .before .before .before .before .before .before .pre .1 .0)))
+qbal-row-requires : tie.Need-qbal-row-requires
+qbal-row-requires c κs = (c .before .before .before .before .before .before .pre .0 .range, rw (c .before .gen-bus .ensures) (c .before .before .before .before .before .before .pre .0 .accepted .bus-below (c .before .before .before .before .before .before .args .g) (c .before .before .before .before .before .before .pre .1 .0)))
 
 returns : tie.Need-returns
 unfolding qgCells bounds
 returns c =
     let a = c .before .before .before .before .before .before .before .before .before .before .before .before .before .before .before .before .before .before .before .before .before .before .before .args in
-    let q : c .before .before .before .before .before .before .before .before .before .before .before .before .before .before .before .before .r-qbal .result ≡ layoutRow (a .l) (Qbal (netOf (a .l) (now (a .bytes)) .genBus (a .g))) = c .before .before .before .before .before .before .before .before .before .before .before .before .before .before .before .before .r-qbal .ensures ∙ ap (λ (i : ℕ). layoutRow (a .l) (Qbal i)) (c .before .before .before .before .before .before .before .before .before .before .before .before .before .before .before .before .before .before .gen-bus .ensures) in
-    (then (rw q at (c .before .before .before .before .before .before .before .before .before .before .before .put .ensures .0)) (rw (c .before .before .before .before .before .before .before .before .before .before .before .before .before .before .before .before .before .generator-capability-active .ensures, c .before .before .before .before .before .before .before .before .before .before .before .before .before .before .before .r-qgub .ensures, c .before .before .before .before .before .before .before .before .before .before .before .before .before .before .r-qglb .ensures) at (c .before .before .before .before .put-bounds .ensures .0)), omega arith)
+    let q : c .before .before .before .before .before .before .before .before .before .before .before .before .before .before .before .before .qbal-row .result ≡ layoutRow (a .l) (Qbal (netOf (a .l) (now (a .bytes)) .genBus (a .g))) = c .before .before .before .before .before .before .before .before .before .before .before .before .before .before .before .before .qbal-row .ensures ∙ ap (λ (i : ℕ). layoutRow (a .l) (Qbal i)) (c .before .before .before .before .before .before .before .before .before .before .before .before .before .before .before .before .before .before .gen-bus .ensures) in
+    (then (rw q at (c .before .before .before .before .before .before .before .before .before .before .before .put .ensures .0)) (rw (c .before .before .before .before .before .before .before .before .before .before .before .before .before .before .before .before .before .generator-capability-active .ensures, c .before .before .before .before .before .before .before .before .before .before .before .before .before .before .before .qgub-row .ensures, c .before .before .before .before .before .before .before .before .before .before .before .before .before .before .qglb-row .ensures) at (c .before .before .before .before .put-bounds .ensures .0)), omega arith)
 
 pub put-qg-spec : {M : Type 1} → statement M
-put-qg-spec = tie.close (tie.spec (λ c. search needs) (λ c. search needs) (λ c κs. search needs) (λ c κs. search needs) (λ c. search needs) r-qbal-requires (λ c κs. search needs) (λ c κs. search needs) (λ c κs. search needs) (λ c κs. search needs) (λ c. search needs) (λ c. search needs) returns)
+put-qg-spec = tie.close (tie.spec (λ c. search needs) (λ c. search needs) (λ c κs. search needs) (λ c κs. search needs) (λ c. search needs) qbal-row-requires (λ c κs. search needs) (λ c κs. search needs) (λ c κs. search needs) (λ c κs. search needs) (λ c. search needs) (λ c. search needs) returns)

@@ -9,17 +9,17 @@ use Rattle.lists.proofs.Ascending.{every-inside}
 use Rattle.records.specs.AcNetwork.{AcNetwork}
 use Rattle.numbering.specs.Numbering.{nvar, ncon, rowNumber}
 use Rattle.rows.specs.Program.{slack}
 use Rattle.kkt.specs.Kkt.{kktOf, kkt}
 use Rattle.records.specs.Network.{networkOf}
-use Rattle.kkt.specs.Demand3.{Places, Demand3}
+use Rattle.demand3.specs.Demand3.{Places, Demand3}
 use Rattle.records.specs.Check.{checkOf}
 use Rattle.refusals.specs.declared.Checked.the-variants as Checked
 use Rattle.numbering.specs.declared.RowName.{RowName}
 use Rattle.records.proofs.Laws.{accepted}
 use Rattle.records.proofs.Sound.{Sound, sound}
 use Rattle.lookups.proofs.Theorem.{numbered}
-use Rattle.kkt.proofs.KktCount.{kkt-count}
-use Rattle.kkt.proofs.KktPlaces.{kkt-once, kkt-twice, kkt-inside}
+use Rattle.demand3.proofs.KktCount.{kkt-count}
+use Rattle.demand3.proofs.KktPlaces.{kkt-once, kkt-twice, kkt-inside}
 
 -- whatever the slacks and the duals are
 places : (G : AcNetwork Float) → Sound G → (s z : RowName → Float) → Places G (kktOf G s z)

@@ -21,15 +21,15 @@ use Rattle.numbering.specs.Numbering.{nvar, ncon, columnNumber, rowNumber, rowB
 use Rattle.rows.specs.Rows.{Coefficient, Constant, constant, constant64, minusOne, minusHalf, half, Cell, cell, plain, single, ends, cells, terms}
 use Rattle.rows.specs.Rows as Rows
 use Rattle.rows.specs.Program.{equalities, inequalities, thermalFrom, thermalTo, secondOrder, everyRow, quadratic}
 use Rattle.kkt.specs.Kkt.{kktRow, plainRow, boundRow, coneBlock, kktOf}
-use Rattle.kkt.specs.Demand3.{Doubled}
+use Rattle.demand3.specs.Demand3.{Doubled}
 use Rattle.numbering.specs.declared.ColumnName.{ColumnName}
 use Rattle.numbering.specs.declared.ColumnName.the-variants.{Pg, Qg, W, Wr, Wi, Pf, Pt, Qf, Qt, CostOf}
 use Rattle.numbering.specs.declared.RowName.{RowName}
 use Rattle.numbering.specs.declared.RowName.the-variants.{Pbal, Qbal, OhmPf, OhmQf, OhmPt, OhmQt, Wub, Wlb, Pgub, Pglb, Qgub, Qglb, Angub, Anglb, Segment, Jabr, Thermal}
 use Rattle.records.proofs.Sound.{Sound}
 use Rattle.rows.proofs.TermsUp.{Up, none, and, up-from, up-to, up-join, up-one, up-when, up-hits, up-pick, up-entries}
-use Rattle.kkt.proofs.KktCones.{cones, asc-nonzero, zone-jabr, zone-three}
+use Rattle.demand3.proofs.KktCones.{cones, asc-nonzero, zone-jabr, zone-three}
 
 module _ (G : AcNetwork Float) (sound : Sound G) where
   -- ---- the rows' cells by ascending column, from the first column to the last

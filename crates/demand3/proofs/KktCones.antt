@@ -20,14 +20,14 @@ use Rattle.numbering.specs.Blocks.{before}
 use Rattle.numbering.specs.Numbering.{nvar, columnNumber, rowNumber, rowBlocks}
 use Rattle.rows.specs.Rows.{Constant, constant, constant64, minusOne, minusHalf, half, cell, written, Term, term, terms, zero64}
 use Rattle.rows.specs.Program.{nonzero}
 use Rattle.kkt.specs.Kkt.{arrow, kktRow, scaled, coneRow, coneBlock}
-use Rattle.kkt.specs.Demand3.{Doubled}
+use Rattle.demand3.specs.Demand3.{Doubled}
 use Rattle.numbering.specs.declared.ColumnName.{ColumnName}
 use Rattle.numbering.specs.declared.ColumnName.the-variants.{W, Wr, Wi}
 use Rattle.numbering.specs.declared.RowName.{RowName}
 use Rattle.numbering.specs.declared.RowName.the-variants.{Jabr}
 use Rattle.records.proofs.Sound.{Sound}
-use Rattle.kkt.proofs.KktCount.{zero-is-zero}
+use Rattle.demand3.proofs.KktCount.{zero-is-zero}
 
 -- the first row of the cones
 abbrev pub cones : AcNetwork Float → ℕ
