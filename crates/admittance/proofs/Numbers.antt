@@ -10,7 +10,7 @@ use Rattle.numbering.specs.Laid.{netOf, Laid}
 use Rattle.numbering.specs.declared.SocWrLayout.{SocWrLayout}
 use Rattle.numbering.specs.declared.ColumnName.the-variants.{W}
 use Rattle.numbering.specs.declared.RowName.{RowName}
-use Rattle.numbering.proofs.Laid.{nvar-number}
+use Rattle.numbering.proofs.Laid.{laid-nvar}
 use Rattle.kkt.specs.Kkt.{kktRow}
 use Rattle.interface.specs.declared.GB.{GB}
 use Rattle.interface.specs.declared.GB.the-variants.{Conductance, Susceptance}
@@ -25,7 +25,7 @@ module _ (l : SocWrLayout) (b : List ℕ) where
 
   module _ (h : Laid l b) where
     pub kkt-number : (r : RowName) → layoutRow l r ≡ rowNumber (netOf l b) r → kktIn l r ≡ kktRow (netOf l b) r
-    kkt-number r e = ap₂ _+_ (nvar-number l b h) e
+    kkt-number r e = ap₂ _+_ (laid-nvar l b h) e
 
     pub shunt-same : (x z : List Float) (gb : GB) (i : ℕ)
         → plus (kktIn l (shuntRow gb i)) (mul binary64 (shuntEntry gb) (getD x (layoutColumn l (W i)) nan))

@@ -3,8 +3,7 @@ use Prim.Native.Nat.{ℕ, _+_}
 use mathlib.Core.List.{List, [], _∷_, map}
 use lib.ListN.{getD}
 use lib.Ieee.{Float, binary64, nan, mul}
-use Rattle.numbering.specs.Blocks.{total}
-use Rattle.numbering.specs.Layout.{layoutColumns, layoutRow, layoutColumn}
+use Rattle.numbering.specs.Layout.{layoutRow, layoutColumn, nvarOf}
 use Rattle.numbering.specs.declared.SocWrLayout.{SocWrLayout}
 use Rattle.numbering.specs.declared.RowName.{RowName}
 use Rattle.rows.specs.Ops.{rounded}
@@ -20,7 +19,7 @@ use Rattle.admittance.specs.declared.inner.series.Entry.{Entry}
 
 -- a row of the program as a row of the KKT matrix
 abbrev pub kktIn : SocWrLayout → RowName → ℕ
-kktIn l x = total (layoutColumns l) + layoutRow l x
+kktIn l x = nvarOf l + layoutRow l x
 
 abbrev pub rowIn : OhmRows → OhmRow → ℕ
 rowIn rs pf = rs .pf

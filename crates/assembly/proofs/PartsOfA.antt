@@ -12,11 +12,10 @@ use Rattle.lists.proofs.Sums.{each-length, sum-le, sum-mul, sum-ones}
 use Rattle.lists.proofs.Compressed.{joined-listed, joined-append, starts-length}
 use Rattle.records.specs.AcNetwork.{AcNetwork}
 use Rattle.records.proofs.Sound.{sound}
-use Rattle.numbering.specs.Blocks.{total}
-use Rattle.numbering.specs.Layout.{layoutColumns}
+use Rattle.numbering.specs.Layout.{nvarOf}
 use Rattle.numbering.specs.Laid.{netOf, Laid}
 use Rattle.numbering.specs.declared.SocWrLayout.{SocWrLayout}
-use Rattle.numbering.proofs.Laid.{nvar-number}
+use Rattle.numbering.proofs.Laid.{laid-nvar}
 use Rattle.rows.specs.Rows.{OhmRow, pf, qf, pt, qt}
 use Rattle.rows.specs.Program.{matrix}
 use Rattle.matrix.specs.Columns.{oneCell, pgCells, qgCells, wCells, wrCells, wiCells, flowCells}
@@ -79,9 +78,9 @@ module _ (l : SocWrLayout) (bytes : List ℕ) where
         matrix-columns G (sound (l .n) (l .m) (l .k) (l .s) bytes (laid .accepted)) (laid .accepted .bus-below)
         ∙ regroup (listed (l .k) (pgCells G)) (listed (l .k) (qgCells G)) (listed (l .n) (wCells G)) (listed (l .m) (wrCells G)) (listed (l .m) (wiCells G)) (listed (l .m) (flowCells G pf)) (listed (l .m) (flowCells G pt)) (listed (l .m) (flowCells G qf)) (listed (l .m) (flowCells G qt)) (each (l .k) (costTurn G))
 
-    pub matrix-starts : length (startsFrom 0 (matrix G)) ≡ total (layoutColumns l) + 1
+    pub matrix-starts : length (startsFrom 0 (matrix G)) ≡ nvarOf l + 1
     unfolding matrix
-    matrix-starts = starts-length 0 _ ∙ ap (λ (n : ℕ). n + 1) (listed-length _ _ ∙ sym (nvar-number l bytes laid))
+    matrix-starts = starts-length 0 _ ∙ ap (λ (n : ℕ). n + 1) (listed-length _ _ ∙ sym (laid-nvar l bytes laid))
 
     pub matrix-count : length (joined (matrix G)) ≡ length (joined (generatorColumns G)) + length (each (l .n) (wCells G)) + length (joined (branchColumns G))
     matrix-count =

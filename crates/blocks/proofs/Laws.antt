@@ -8,8 +8,7 @@ use lib.Ieee.{binary64, mul}
 use Rattle.lists.specs.UpTo.{upTo, sum, bit, count}
 use Rattle.lists.specs.Entries.{Entry}
 use Rattle.lists.proofs.Sums.{sum-mono, sum-next}
-use Rattle.numbering.specs.Blocks.{total}
-use Rattle.numbering.specs.Layout.{layoutColumns, layoutColumn}
+use Rattle.numbering.specs.Layout.{layoutColumn, nvarOf}
 use Rattle.numbering.specs.Laid.{netOf, Laid}
 use Rattle.numbering.specs.declared.ColumnName.the-variants.{Pg}
 use Rattle.rows.specs.Ops.{rounded}
@@ -22,7 +21,7 @@ use Rattle.lines.specs.declared.Ohm.{Ohm}
 use Rattle.lines.proofs.Sizes.{nvar-is, small}
 
 -- of an Ohm row
-pub ohm-same : {l : SocWrLayout} {bytes : List ℕ} {v : ℕ} {r : RowName} {o : Ohm} → Laid l bytes → v ≡ total (layoutColumns l) → OhmStands (netOf l bytes) r o
+pub ohm-same : {l : SocWrLayout} {bytes : List ℕ} {v : ℕ} {r : RowName} {o : Ohm} → Laid l bytes → v ≡ nvarOf l → OhmStands (netOf l bytes) r o
     → (v + o .row < 2 ^ 32) × (ohmAt (v + o .row) o ≡ plainRow (netOf l bytes) r)
 ohm-same {l} {bytes} {v} {r} {o} h e s =
     (omega (arith, small h, nvar-is h e, s .within), ap₂ (λ (a k : ℕ). ohmAt (a + k) o) (nvar-is h e) (s .number) ∙ sym (s .entries (kktRow (netOf l bytes) r)))

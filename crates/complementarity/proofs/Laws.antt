@@ -11,8 +11,7 @@ use Rattle.lists.specs.Entries.{Entry, entry}
 use Rattle.lists.proofs.Each.{each-ext}
 use Rattle.records.specs.AcNetwork.{AcNetwork}
 use Rattle.numbering.specs.Numbering.{nvar, ncon, columnNumber}
-use Rattle.numbering.specs.Blocks.{total}
-use Rattle.numbering.specs.Layout.{layoutColumns}
+use Rattle.numbering.specs.Layout.{nvarOf}
 use Rattle.numbering.specs.Laid.{netOf}
 use Rattle.numbering.specs.declared.SocWrLayout.{SocWrLayout}
 use Rattle.numbering.specs.declared.RowName.{RowName}
@@ -125,7 +124,7 @@ pub record ConeReady (v : ℕ) (x z : List Float) (d : Bool) (c : Cone) (n : ℕ
   pub small : v + length z < 2 ^ 32
   pub same : coneLines v x z d c n ≡ es
 
-module _ {l : SocWrLayout} {bytes : List ℕ} {x z : List Float} {v : ℕ} (g : Given l bytes x z) (e : v ≡ total (layoutColumns l)) (d : Bool) where
+module _ {l : SocWrLayout} {bytes : List ℕ} {x z : List Float} {v : ℕ} (g : Given l bytes x z) (e : v ≡ nvarOf l) (d : Bool) where
   fits : v + length z < 2 ^ 32
   fits = omega (arith, small (g .laid), nvar-is (g .laid) e, g .z-length)
 

@@ -7,7 +7,7 @@ use Rattle.refusals.specs.declared.Written.{Written}
 use Rattle.records.specs.Counts.{ifAccepted}
 use Rattle.numbering.specs.Blocks.{key, total}
 use Rattle.numbering.specs.Numbering.{columnKey, rowKey}
-use Rattle.numbering.specs.Layout.{layoutColumns, layoutRows, nEqOf, nIneqOf}
+use Rattle.numbering.specs.Layout.{nEqOf, nIneqOf, nvarOf, nconOf}
 use Rattle.numbering.specs.Lookups.{lookupNumber, lookupValue}
 use Rattle.numbering.specs.declared.Key.{Key}
 use Rattle.numbering.specs.declared.Lookup.{Lookup}
@@ -40,8 +40,8 @@ pub record SizesAnswer (c : Checked) (l : SocWrLayout) (r : Sizes) : Type 0 wher
   pub value : r .value ≡ checkedValue c
   pub n_eq : r .«n_eq» ≡ ifAccepted c (nEqOf l)
   pub n_ineq : r .«n_ineq» ≡ ifAccepted c (nIneqOf l)
-  pub nvar : r .nvar ≡ ifAccepted c (total (layoutColumns l))
-  pub ncon : r .ncon ≡ ifAccepted c (total (layoutRows l))
+  pub nvar : r .nvar ≡ ifAccepted c (nvarOf l)
+  pub ncon : r .ncon ≡ ifAccepted c (nconOf l)
   pub t : r .t ≡ ifAccepted c (l .t)
   pub cost_columns : r .«cost_columns» ≡ ifAccepted c (l .«cost_columns»)
 

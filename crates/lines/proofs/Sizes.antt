@@ -5,15 +5,14 @@ use mathlib.Core.List.{List}
 use native.Mathlib.Omega.{arith}
 use Rattle.lists.proofs.Sums.{count-le}
 use Rattle.numbering.specs.Numbering.{nvar, ncon}
-use Rattle.numbering.specs.Blocks.{total}
-use Rattle.numbering.specs.Layout.{layoutColumns}
+use Rattle.numbering.specs.Layout.{nvarOf}
 use Rattle.numbering.specs.Laid.{netOf, Laid}
 use Rattle.numbering.specs.declared.SocWrLayout.{SocWrLayout}
-use Rattle.numbering.proofs.Laid.{nvar-number}
+use Rattle.numbering.proofs.Laid.{laid-nvar}
 
 module _ {l : SocWrLayout} {bytes : List ℕ} (h : Laid l bytes) where
-  pub nvar-is : {v : ℕ} → v ≡ total (layoutColumns l) → v ≡ nvar (netOf l bytes)
-  nvar-is e = e ∙ nvar-number l bytes h
+  pub nvar-is : {v : ℕ} → v ≡ nvarOf l → v ≡ nvar (netOf l bytes)
+  nvar-is e = e ∙ laid-nvar l bytes h
 
   -- the numbers of the KKT matrix's rows and columns fit
   pub small : nvar (netOf l bytes) + ncon (netOf l bytes) < 2 ^ 32

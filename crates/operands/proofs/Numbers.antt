@@ -7,7 +7,7 @@ use Rattle.numbering.specs.Numbering.{columnNumber}
 use Rattle.numbering.specs.Layout.{layoutColumn}
 use Rattle.numbering.specs.Laid.{netOf, Laid}
 use Rattle.numbering.specs.declared.SocWrLayout.{SocWrLayout}
-use Rattle.numbering.proofs.Laid.{nvar-number}
+use Rattle.numbering.proofs.Laid.{laid-nvar}
 use Rattle.interface.specs.declared.Power.{Power}
 use Rattle.interface.specs.declared.Power.the-variants.{Active, Reactive}
 use Rattle.interface.specs.declared.End.{End}
@@ -31,8 +31,8 @@ module _ (l : SocWrLayout) (b : List ℕ) where
 
   -- the first row of an operand, and how many it has
   pub row-few : Laid l b → (o : Operand) → selectorRow (netOf l b) o 0 ≤ 131072
-  row-few h (Price Active) = omega (arith, nvar-number l b h, h .range)
-  row-few h (Price Reactive) = omega (arith, nvar-number l b h, h .range)
+  row-few h (Price Active) = omega (arith, laid-nvar l b h, h .range)
+  row-few h (Price Reactive) = omega (arith, laid-nvar l b h, h .range)
   row-few h (Dispatch Active) = omega (arith, h .range)
   row-few h (Dispatch Reactive) = omega (arith, h .range)
   row-few h (Flow Active From) = omega (arith, h .range)

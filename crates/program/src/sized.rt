@@ -8,8 +8,7 @@ ghost use mathlib.Core.Path.{_≡_};
 ghost use Prim.Native.Nat.{_+_, _≤_};
 ghost use lib.ListN.{length};
 ghost use Rattle.refusals.specs.declared.Checked.the-variants.{Accepted};
-ghost use Rattle.numbering.specs.Blocks.{total};
-ghost use Rattle.numbering.specs.Layout.{layoutColumns, InRange};
+ghost use Rattle.numbering.specs.Layout.{InRange, nvarOf};
 ghost use Rattle.numbering.specs.Laid.{netOf, Laid};
 ghost use Rattle.rows.specs.Program.{linear, matrix};
 ghost use Rattle.matrix.specs.Lists.{rightSide, quadraticMatrix};
@@ -80,7 +79,7 @@ fn put_counted(
     bytes: &[u8],
 ) -> Written
     requires { ⌜ Laid l (now bytes) ⌝ }
-    requires { ⌜ total (layoutColumns l) + 1 ≤ length (now starts) ⌝ }
+    requires { ⌜ nvarOf l + 1 ≤ length (now starts) ⌝ }
     ensures { λ r. ⌜ ColumnsWritten Accepted (matrix (netOf l (now (bytes .entry)))) (now (starts .entry)) (now (rows .entry)) (now (values .entry)) (now (starts .exit)) (now (rows .exit)) (now (values .exit)) r ⌝ }
 {
     let count = count_a(l, bytes);
@@ -103,7 +102,7 @@ fn put_sized(
     bytes: &[u8],
 ) -> Written
     requires { ⌜ Laid l (now bytes) ⌝ }
-    requires { ⌜ total (layoutColumns l) + 1 ≤ length (now starts) ⌝ }
+    requires { ⌜ nvarOf l + 1 ≤ length (now starts) ⌝ }
     ensures { λ r. ⌜ ColumnsWritten Accepted (matrix (netOf l (now (bytes .entry)))) (now (starts .entry)) (now (rows .entry)) (now (values .entry)) (now (starts .exit)) (now (rows .exit)) (now (values .exit)) r ⌝ }
 {
     let most = most(l);

@@ -13,13 +13,12 @@ use Rattle.lists.specs.Compressed.{joined, startsFrom}
 use Rattle.lists.proofs.Each.{each-ext, each-split, each-none, each-at-when, each-nil, when-nil}
 use Rattle.lists.proofs.Sums.{each-length, sum-ext}
 use Rattle.lists.proofs.Compressed.{joined-listed, joined-append, starts-length}
-use Rattle.numbering.specs.Blocks.{total}
-use Rattle.numbering.specs.Layout.{layoutColumns}
+use Rattle.numbering.specs.Layout.{nvarOf}
 use Rattle.numbering.specs.Numbering.{nvar, columnNumber}
 use Rattle.numbering.specs.Laid.{netOf, Laid}
 use Rattle.numbering.specs.declared.SocWrLayout.{SocWrLayout}
 use Rattle.numbering.specs.declared.ColumnName.the-variants.{Pg}
-use Rattle.numbering.proofs.Laid.{nvar-number}
+use Rattle.numbering.proofs.Laid.{laid-nvar}
 use Rattle.rows.specs.Rows.{zero64}
 use Rattle.rows.specs.Program.{quadratic}
 use Rattle.matrix.specs.Lists.{quadraticMatrix}
@@ -55,7 +54,7 @@ module _ (l : SocWrLayout) (bytes : List ℕ) where
     pub quad-parts : quadraticMatrix (netOf l bytes) ≡ listed (l .k) (quadCells l bytes) ++ listed (l .k + l .n + 6 * l .m + l .«cost_columns») (λ c. [])
     unfolding quadraticMatrix
     quad-parts =
-        let e : nvar (netOf l bytes) ≡ l .k + (l .k + l .n + 6 * l .m + l .«cost_columns») = omega (arith, nvar-number l bytes laid) in
+        let e : nvar (netOf l bytes) ≡ l .k + (l .k + l .n + 6 * l .m + l .«cost_columns») = omega (arith, laid-nvar l bytes laid) in
         ap (λ (n : ℕ). listed n (λ c. select c (quadratic (netOf l bytes)))) e
         ∙ each-split (λ c. select c (quadratic (netOf l bytes)) ∷ []) (l .k) (l .k + l .n + 6 * l .m + l .«cost_columns»)
         ∙ rw (
@@ -70,6 +69,6 @@ module _ (l : SocWrLayout) (bytes : List ℕ) where
         ∙ rw (joined-append (listed (l .k) (quadCells l bytes)) (listed (l .k + l .n + 6 * l .m + l .«cost_columns») (λ c. [])), joined-listed, joined-listed, each-nil, append-nil)
         (each-length (l .k) (quadCells l bytes) ∙ sum-ext (l .k) _ _ (λ g m. nonzero-length g (quadValue l bytes g)))
 
-    pub quad-starts : length (startsFrom 0 (quadraticMatrix (netOf l bytes))) ≡ total (layoutColumns l) + 1
+    pub quad-starts : length (startsFrom 0 (quadraticMatrix (netOf l bytes))) ≡ nvarOf l + 1
     unfolding quadraticMatrix
-    quad-starts = starts-length 0 _ ∙ ap (λ (n : ℕ). n + 1) (listed-length _ _ ∙ sym (nvar-number l bytes laid))
+    quad-starts = starts-length 0 _ ∙ ap (λ (n : ℕ). n + 1) (listed-length _ _ ∙ sym (laid-nvar l bytes laid))

@@ -11,12 +11,11 @@ use Rattle.lists.specs.UpTo.{upTo, each, listed, when, bit, sum, count}
 use Rattle.lists.proofs.Each.{each-ext, each-split}
 use Rattle.records.specs.Fields.{interceptOf}
 use Rattle.records.specs.Network.{segmentRecord}
-use Rattle.numbering.specs.Blocks.{total}
-use Rattle.numbering.specs.Layout.{layoutRows, layoutColumns}
+use Rattle.numbering.specs.Layout.{nvarOf, nconOf}
 use Rattle.numbering.specs.Laid.{netOf, Laid}
 use Rattle.numbering.specs.declared.SocWrLayout.{SocWrLayout}
 use Rattle.numbering.specs.declared.RowName.the-variants.{Segment}
-use Rattle.numbering.proofs.Laid.{curves-are, nvar-number, ncon-number}
+use Rattle.numbering.proofs.Laid.{curves-are, laid-nvar, laid-ncon}
 use Rattle.rows.specs.Ops.{rounded}
 use Rattle.rows.specs.Rows.{b, zero64}
 use Rattle.rows.specs.Program.{linear}
@@ -79,9 +78,9 @@ eight-blocks k n m x a c =
 
 module _ (l : SocWrLayout) (bytes : List ℕ) (laid : Laid l bytes) where
   -- q
-  pub linear-length : length (linear (netOf l bytes)) ≡ total (layoutColumns l)
+  pub linear-length : length (linear (netOf l bytes)) ≡ nvarOf l
   unfolding linear
-  linear-length = listed-length _ _ ∙ sym (nvar-number l bytes laid)
+  linear-length = listed-length _ _ ∙ sym (laid-nvar l bytes laid)
 
   pub linear-parts : linear (netOf l bytes)
       ≡ listed (l .k) (linearCost l bytes) ++ listed (l .k + l .n + 6 * l .m) (λ c. zero64) ++ listed (l .«cost_columns») (λ c. add binary64 zero64 (rounded .one))
@@ -130,9 +129,9 @@ module _ (l : SocWrLayout) (bytes : List ℕ) (laid : Laid l bytes) where
   intercepts-length = listed-length _ _
 
   -- as many as the layout says
-  pub right-length : length (rightSide (netOf l bytes)) ≡ total (layoutRows l)
+  pub right-length : length (rightSide (netOf l bytes)) ≡ nconOf l
   unfolding rightSide
-  right-length = listed-length _ _ ∙ sym (ncon-number l bytes laid)
+  right-length = listed-length _ _ ∙ sym (laid-ncon l bytes laid)
 
   -- b
   pub right-parts : rightSide (netOf l bytes)

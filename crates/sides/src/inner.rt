@@ -8,8 +8,7 @@ ghost use lib.ListN.{length};
 ghost use lib.Ieee.{neg};
 ghost use Rattle.lists.specs.UpTo.{each, listed, when, overlay};
 ghost use Rattle.records.specs.Fields.{interceptOf};
-ghost use Rattle.numbering.specs.Blocks.{total};
-ghost use Rattle.numbering.specs.Layout.{layoutColumns, layoutRows};
+ghost use Rattle.numbering.specs.Layout.{nvarOf, nconOf};
 ghost use Rattle.numbering.specs.Laid.{netOf, Laid};
 ghost use Rattle.rows.specs.Ops.{rounded};
 ghost use Rattle.rows.specs.Program.{linear};
@@ -194,7 +193,7 @@ fn fill_branches(out: &mut [f64], angle: usize, thermal: usize, l: SocWrLayout, 
 // All of b.
 pub fn fill_b(out: &mut [f64], l: SocWrLayout, bytes: &[u8])
     requires { ⌜ Laid l (now bytes) ⌝ }
-    requires { ⌜ total (layoutRows l) ≤ length (now out) ⌝ }
+    requires { ⌜ nconOf l ≤ length (now out) ⌝ }
     ensures { λ _. ⌜ now (out .exit) ≡ overlay (rightSide (netOf l (now (bytes .entry)))) (now (out .entry)) ⌝ }
 {
     let ohm = 2 * l.n;
@@ -231,7 +230,7 @@ fn fill_costs(out: &mut [f64], l: SocWrLayout, bytes: &[u8])
 // All of q.
 pub fn fill_q(out: &mut [f64], l: SocWrLayout, bytes: &[u8])
     requires { ⌜ Laid l (now bytes) ⌝ }
-    requires { ⌜ total (layoutColumns l) ≤ length (now out) ⌝ }
+    requires { ⌜ nvarOf l ≤ length (now out) ⌝ }
     ensures { λ _. ⌜ now (out .exit) ≡ overlay (linear (netOf l (now (bytes .entry)))) (now (out .entry)) ⌝ }
 {
     let zeros = l.k + l.n + 6 * l.m;

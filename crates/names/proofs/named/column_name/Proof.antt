@@ -3,9 +3,8 @@ use mathlib.Core.Path.{sym, ap, _∙_}
 use native.Mathlib.Omega.{arith}
 use Rattle.records.specs.Network.{networkOf}
 use Rattle.records.proofs.Laws.{accepted}
-use Rattle.numbering.specs.Blocks.{total}
 use Rattle.numbering.specs.Numbering.{nvar}
-use Rattle.numbering.specs.Layout.{layoutColumns}
+use Rattle.numbering.specs.Layout.{nvarOf}
 use Rattle.names.specs.Named.{columnNamed}
 use Rattle.numbering.specs.declared.SocWrLayout.{SocWrLayout}
 use Rattle.numbering.proofs.Entered.{gone-on}
@@ -29,17 +28,17 @@ column-count-requires c κs = rw (c .layout .ensures) (accepted-range _ _ _ _ _ 
 
 returns-2 : tie.Need-returns-2
 unfolding columnNamed
-returns-2 c = let G = networkOf (c .before .before .before .before .before .before .before .args .n) (c .before .before .before .before .before .before .before .args .m) (c .before .before .before .before .before .before .before .args .k) (c .before .before .before .before .before .before .before .args .s) (c .before .before .before .before .before .before .before .args .bytes .now) in let z = c .before .column-count .ensures ∙ ap (λ (l : SocWrLayout). total (layoutColumns l)) (c .before .before .layout .ensures) ∙ nvar-layout G in column-past _ _ _ (gone-on (c .before .before .before .before .before .check-records .ensures) (sym (c .before .before .before .before .is-refused .ensures) ∙ c .before .before .before .if1 .left)) (omega (arith, z))
+returns-2 c = let G = networkOf (c .before .before .before .before .before .before .before .args .n) (c .before .before .before .before .before .before .before .args .m) (c .before .before .before .before .before .before .before .args .k) (c .before .before .before .before .before .before .before .args .s) (c .before .before .before .before .before .before .before .args .bytes .now) in let z = c .before .column-count .ensures ∙ ap (λ (l : SocWrLayout). nvarOf l) (c .before .before .layout .ensures) ∙ nvar-layout G in column-past _ _ _ (gone-on (c .before .before .before .before .before .check-records .ensures) (sym (c .before .before .before .before .is-refused .ensures) ∙ c .before .before .before .if1 .left)) (omega (arith, z))
 
 column-key-at-requires : tie.Need-column-key-at-requires
-column-key-at-requires c κs = let G = networkOf (c .before .before .before .before .before .before .before .args .n) (c .before .before .before .before .before .before .before .args .m) (c .before .before .before .before .before .before .before .args .k) (c .before .before .before .before .before .before .before .args .s) (c .before .before .before .before .before .before .before .args .bytes .now) in let z = c .before .column-count .ensures ∙ ap (λ (l : SocWrLayout). total (layoutColumns l)) (c .before .before .layout .ensures) ∙ nvar-layout G in (accepted _ _ _ _ _ (gone-on (c .before .before .before .before .before .check-records .ensures) (sym (c .before .before .before .before .is-refused .ensures) ∙ c .before .before .before .if1 .left)), c .before .before .layout .ensures, omega (arith, z))
+column-key-at-requires c κs = let G = networkOf (c .before .before .before .before .before .before .before .args .n) (c .before .before .before .before .before .before .before .args .m) (c .before .before .before .before .before .before .before .args .k) (c .before .before .before .before .before .before .before .args .s) (c .before .before .before .before .before .before .before .args .bytes .now) in let z = c .before .column-count .ensures ∙ ap (λ (l : SocWrLayout). nvarOf l) (c .before .before .layout .ensures) ∙ nvar-layout G in (accepted _ _ _ _ _ (gone-on (c .before .before .before .before .before .check-records .ensures) (sym (c .before .before .before .before .is-refused .ensures) ∙ c .before .before .before .if1 .left)), c .before .before .layout .ensures, omega (arith, z))
 
 column-of-requires : tie.Need-column-of-requires
 column-of-requires c κs = let G = networkOf (c .before .before .before .before .before .before .before .before .args .n) (c .before .before .before .before .before .before .before .before .args .m) (c .before .before .before .before .before .before .before .before .args .k) (c .before .before .before .before .before .before .before .before .args .s) (c .before .before .before .before .before .before .before .before .args .bytes .now) in valid-column G (c .column-key-at .result) (c .column-key-at .ensures .valid) .0
 
 returns-3 : tie.Need-returns-3
 unfolding columnNamed
-returns-3 c = let G = networkOf (c .before .before .before .before .before .before .before .before .before .args .n) (c .before .before .before .before .before .before .before .before .before .args .m) (c .before .before .before .before .before .before .before .before .before .args .k) (c .before .before .before .before .before .before .before .before .before .args .s) (c .before .before .before .before .before .before .before .before .before .args .bytes .now) in let z = c .before .before .before .column-count .ensures ∙ ap (λ (l : SocWrLayout). total (layoutColumns l)) (c .before .before .before .before .layout .ensures) ∙ nvar-layout G in column-given (nvar G) (c .before .before .before .before .before .before .before .before .before .args .p) _ _ (gone-on (c .before .before .before .before .before .before .before .check-records .ensures) (sym (c .before .before .before .before .before .before .is-refused .ensures) ∙ c .before .before .before .before .before .if1 .left)) (omega (arith, z)) (column-right G (c .before .before .before .before .before .before .before .before .before .args .p) (c .before .column-key-at .result) _ (record { block = c .column-of .ensures .block; item = c .column-of .ensures .item; place = c .column-of .ensures .place ∙ sym (valid-column G (c .before .column-key-at .result) (c .before .column-key-at .ensures .valid) .1) }) (c .before .column-key-at .ensures))
+returns-3 c = let G = networkOf (c .before .before .before .before .before .before .before .before .before .args .n) (c .before .before .before .before .before .before .before .before .before .args .m) (c .before .before .before .before .before .before .before .before .before .args .k) (c .before .before .before .before .before .before .before .before .before .args .s) (c .before .before .before .before .before .before .before .before .before .args .bytes .now) in let z = c .before .before .before .column-count .ensures ∙ ap (λ (l : SocWrLayout). nvarOf l) (c .before .before .before .before .layout .ensures) ∙ nvar-layout G in column-given (nvar G) (c .before .before .before .before .before .before .before .before .before .args .p) _ _ (gone-on (c .before .before .before .before .before .before .before .check-records .ensures) (sym (c .before .before .before .before .before .before .is-refused .ensures) ∙ c .before .before .before .before .before .if1 .left)) (omega (arith, z)) (column-right G (c .before .before .before .before .before .before .before .before .before .args .p) (c .before .column-key-at .result) _ (record { block = c .column-of .ensures .block; item = c .column-of .ensures .item; place = c .column-of .ensures .place ∙ sym (valid-column G (c .before .column-key-at .result) (c .before .column-key-at .ensures .valid) .1) }) (c .before .column-key-at .ensures))
 
 pub column-name-spec : {M : Type 1} → statement M
 column-name-spec =

@@ -3,9 +3,8 @@ use mathlib.Core.Path.{sym, ap, _∙_}
 use native.Mathlib.Omega.{arith}
 use Rattle.records.specs.Network.{networkOf}
 use Rattle.records.proofs.Laws.{accepted}
-use Rattle.numbering.specs.Blocks.{total}
 use Rattle.numbering.specs.Numbering.{ncon}
-use Rattle.numbering.specs.Layout.{layoutRows}
+use Rattle.numbering.specs.Layout.{nconOf}
 use Rattle.names.specs.Named.{rowNamed}
 use Rattle.numbering.specs.declared.SocWrLayout.{SocWrLayout}
 use Rattle.numbering.proofs.Entered.{gone-on}
@@ -29,17 +28,17 @@ row-count-requires c κs = rw (c .layout .ensures) (accepted-range _ _ _ _ _ (ac
 
 returns-2 : tie.Need-returns-2
 unfolding rowNamed
-returns-2 c = let G = networkOf (c .before .before .before .before .before .before .before .args .n) (c .before .before .before .before .before .before .before .args .m) (c .before .before .before .before .before .before .before .args .k) (c .before .before .before .before .before .before .before .args .s) (c .before .before .before .before .before .before .before .args .bytes .now) in let z = c .before .row-count .ensures ∙ ap (λ (l : SocWrLayout). total (layoutRows l)) (c .before .before .layout .ensures) ∙ ncon-layout G ((accepted _ _ _ _ _ (gone-on (c .before .before .before .before .before .check-records .ensures) (sym (c .before .before .before .before .is-refused .ensures) ∙ c .before .before .before .if1 .left))) .counts-add) in row-past _ _ _ (gone-on (c .before .before .before .before .before .check-records .ensures) (sym (c .before .before .before .before .is-refused .ensures) ∙ c .before .before .before .if1 .left)) (omega (arith, z))
+returns-2 c = let G = networkOf (c .before .before .before .before .before .before .before .args .n) (c .before .before .before .before .before .before .before .args .m) (c .before .before .before .before .before .before .before .args .k) (c .before .before .before .before .before .before .before .args .s) (c .before .before .before .before .before .before .before .args .bytes .now) in let z = c .before .row-count .ensures ∙ ap (λ (l : SocWrLayout). nconOf l) (c .before .before .layout .ensures) ∙ ncon-layout G ((accepted _ _ _ _ _ (gone-on (c .before .before .before .before .before .check-records .ensures) (sym (c .before .before .before .before .is-refused .ensures) ∙ c .before .before .before .if1 .left))) .counts-add) in row-past _ _ _ (gone-on (c .before .before .before .before .before .check-records .ensures) (sym (c .before .before .before .before .is-refused .ensures) ∙ c .before .before .before .if1 .left)) (omega (arith, z))
 
 row-key-at-requires : tie.Need-row-key-at-requires
-row-key-at-requires c κs = let G = networkOf (c .before .before .before .before .before .before .before .args .n) (c .before .before .before .before .before .before .before .args .m) (c .before .before .before .before .before .before .before .args .k) (c .before .before .before .before .before .before .before .args .s) (c .before .before .before .before .before .before .before .args .bytes .now) in let z = c .before .row-count .ensures ∙ ap (λ (l : SocWrLayout). total (layoutRows l)) (c .before .before .layout .ensures) ∙ ncon-layout G ((accepted _ _ _ _ _ (gone-on (c .before .before .before .before .before .check-records .ensures) (sym (c .before .before .before .before .is-refused .ensures) ∙ c .before .before .before .if1 .left))) .counts-add) in (accepted _ _ _ _ _ (gone-on (c .before .before .before .before .before .check-records .ensures) (sym (c .before .before .before .before .is-refused .ensures) ∙ c .before .before .before .if1 .left)), c .before .before .layout .ensures, omega (arith, z))
+row-key-at-requires c κs = let G = networkOf (c .before .before .before .before .before .before .before .args .n) (c .before .before .before .before .before .before .before .args .m) (c .before .before .before .before .before .before .before .args .k) (c .before .before .before .before .before .before .before .args .s) (c .before .before .before .before .before .before .before .args .bytes .now) in let z = c .before .row-count .ensures ∙ ap (λ (l : SocWrLayout). nconOf l) (c .before .before .layout .ensures) ∙ ncon-layout G ((accepted _ _ _ _ _ (gone-on (c .before .before .before .before .before .check-records .ensures) (sym (c .before .before .before .before .is-refused .ensures) ∙ c .before .before .before .if1 .left))) .counts-add) in (accepted _ _ _ _ _ (gone-on (c .before .before .before .before .before .check-records .ensures) (sym (c .before .before .before .before .is-refused .ensures) ∙ c .before .before .before .if1 .left)), c .before .before .layout .ensures, omega (arith, z))
 
 row-of-requires : tie.Need-row-of-requires
 row-of-requires c κs = let G = networkOf (c .before .before .before .before .before .before .before .before .args .n) (c .before .before .before .before .before .before .before .before .args .m) (c .before .before .before .before .before .before .before .before .args .k) (c .before .before .before .before .before .before .before .before .args .s) (c .before .before .before .before .before .before .before .before .args .bytes .now) in valid-row G (c .row-key-at .result) (c .row-key-at .ensures .valid)
 
 returns-3 : tie.Need-returns-3
 unfolding rowNamed
-returns-3 c = let G = networkOf (c .before .before .before .before .before .before .before .before .before .args .n) (c .before .before .before .before .before .before .before .before .before .args .m) (c .before .before .before .before .before .before .before .before .before .args .k) (c .before .before .before .before .before .before .before .before .before .args .s) (c .before .before .before .before .before .before .before .before .before .args .bytes .now) in let z = c .before .before .before .row-count .ensures ∙ ap (λ (l : SocWrLayout). total (layoutRows l)) (c .before .before .before .before .layout .ensures) ∙ ncon-layout G ((accepted _ _ _ _ _ (gone-on (c .before .before .before .before .before .before .before .check-records .ensures) (sym (c .before .before .before .before .before .before .is-refused .ensures) ∙ c .before .before .before .before .before .if1 .left))) .counts-add) in row-given (ncon G) (c .before .before .before .before .before .before .before .before .before .args .p) _ _ (gone-on (c .before .before .before .before .before .before .before .check-records .ensures) (sym (c .before .before .before .before .before .before .is-refused .ensures) ∙ c .before .before .before .before .before .if1 .left)) (omega (arith, z)) (row-right G (c .before .before .before .before .before .before .before .before .before .args .p) (c .before .row-key-at .result) _ (record { block = c .row-of .ensures .block; item = c .row-of .ensures .item; place = c .row-of .ensures .place }) (c .before .row-key-at .ensures))
+returns-3 c = let G = networkOf (c .before .before .before .before .before .before .before .before .before .args .n) (c .before .before .before .before .before .before .before .before .before .args .m) (c .before .before .before .before .before .before .before .before .before .args .k) (c .before .before .before .before .before .before .before .before .before .args .s) (c .before .before .before .before .before .before .before .before .before .args .bytes .now) in let z = c .before .before .before .row-count .ensures ∙ ap (λ (l : SocWrLayout). nconOf l) (c .before .before .before .before .layout .ensures) ∙ ncon-layout G ((accepted _ _ _ _ _ (gone-on (c .before .before .before .before .before .before .before .check-records .ensures) (sym (c .before .before .before .before .before .before .is-refused .ensures) ∙ c .before .before .before .before .before .if1 .left))) .counts-add) in row-given (ncon G) (c .before .before .before .before .before .before .before .before .before .args .p) _ _ (gone-on (c .before .before .before .before .before .before .before .check-records .ensures) (sym (c .before .before .before .before .before .before .is-refused .ensures) ∙ c .before .before .before .before .before .if1 .left)) (omega (arith, z)) (row-right G (c .before .before .before .before .before .before .before .before .before .args .p) (c .before .row-key-at .result) _ (record { block = c .row-of .ensures .block; item = c .row-of .ensures .item; place = c .row-of .ensures .place }) (c .before .row-key-at .ensures))
 
 pub row-name-spec : {M : Type 1} → statement M
 row-name-spec =

@@ -8,7 +8,7 @@ use Rattle.admittance.proofs.Entries.{series-same}
 use Prim.Native.Nat.{_<_}
 use Rattle.admittance.proofs.inner.series.series_admittance.Statement.{statement}
 use Rattle.admittance.proofs.inner.series.series_admittance.Tie as tie
-use Rattle.numbering.proofs.Laid.{nvar-number}
+use Rattle.numbering.proofs.Laid.{laid-nvar}
 
 ohm-columns-requires : tie.Need-ohm-columns-requires
 ohm-columns-requires c κs =
@@ -24,7 +24,7 @@ returns c =
     c .before .before .land-all .ensures
     ∙ ap (λ (ss : List Store). storedAll ss (a .column .now))
     (rw (c .before .before .before .before .before .entries .ensures, c .before .before .before .before .before .before .series .ensures)
-    (series-same (a .l) w (a .x .now) (a .z .now) (a .e) _ _ _ (a .gb) (c .before .before .before .column-count .ensures ∙ nvar-number (a .l) w (c .before .before .before .before .before .before .before .before .before .before .before .before .before .before .before .before .pre .0))
+    (series-same (a .l) w (a .x .now) (a .z .now) (a .e) _ _ _ (a .gb) (c .before .before .before .column-count .ensures ∙ laid-nvar (a .l) w (c .before .before .before .before .before .before .before .before .before .before .before .before .before .before .before .before .pre .0))
     (record { pf = c .before .before .before .before .before .before .before .ohm-rows .ensures .0; qf = c .before .before .before .before .before .before .before .ohm-rows .ensures .1; pt = c .before .before .before .before .before .before .before .ohm-rows .ensures .2; qt = c .before .before .before .before .before .before .before .ohm-rows .ensures .3 })
     (record { from = rw (← c .before .before .before .before .before .before .before .before .before .before .br-from .ensures) (c .before .before .before .before .before .before .before .before .ohm-columns .ensures .0); to = rw (← c .before .before .before .before .before .before .before .before .before .br-to .ensures) (c .before .before .before .before .before .before .before .before .ohm-columns .ensures .1); wr = c .before .before .before .before .before .before .before .before .ohm-columns .ensures .2; wi = c .before .before .before .before .before .before .before .before .ohm-columns .ensures .3 })))
 
