@@ -1,9 +1,8 @@
 -- Demand 3 holds of every accepted network. Assumes nothing.
 use Prim.Native.Nat.{ℕ, _+_}
-use mathlib.Core.Path.{_≡_}
 use mathlib.Core.List.{List}
 use native.Mathlib.Omega.{arith}
-use lib.ListN.{length, getD}
+use lib.ListN.{getD}
 use lib.Ieee.{Float, nan}
 use Rattle.lists.proofs.Ascending.{every-inside}
 use Rattle.records.specs.AcNetwork.{AcNetwork}
@@ -11,9 +10,7 @@ use Rattle.numbering.specs.Numbering.{nvar, ncon, rowNumber}
 use Rattle.rows.specs.Program.{slack}
 use Rattle.kkt.specs.Kkt.{kktOf, kkt}
 use Rattle.records.specs.Network.{networkOf}
-use Rattle.demand3.specs.Demand3.{Places, Demand3}
-use Rattle.records.specs.Check.{checkOf}
-use Rattle.refusals.specs.declared.Checked.the-variants as Checked
+use Rattle.demand3.specs.Demand3.{Places, Demanded}
 use Rattle.numbering.specs.declared.RowName.{RowName}
 use Rattle.records.proofs.Laws.{accepted}
 use Rattle.records.proofs.Sound.{Sound, sound}
@@ -35,9 +32,7 @@ pub kkt-places : (G : AcNetwork Float) → Sound G → (x z : List Float) → Pl
 unfolding kkt
 kkt-places G h x z = places G h (slack G x) (λ r. getD z (rowNumber G r) nan)
 
--- "In demand 3 an accepted network is counts and records that pass the record check (1 to 5 and the sum)"
-pub demand3 : (n m k s : ℕ) (bytes : List ℕ) (x z : List Float) → checkOf n m k s bytes ≡ Checked.Accepted
-    → length x ≡ nvar (networkOf n m k s bytes) → length z ≡ ncon (networkOf n m k s bytes) → Demand3 n m k s bytes x z
+pub demand3 : (n m k s : ℕ) (bytes : List ℕ) (x z : List Float) → Demanded n m k s bytes x z
 demand3 n m k s bytes x z h hx hz =
     record {
       numbered = numbered n m k s bytes h;

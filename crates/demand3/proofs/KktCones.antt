@@ -16,8 +16,8 @@ use Rattle.lists.proofs.Ascending.{Asc, stop, more, asc-from, asc-to, asc-each,
 use Rattle.lists.proofs.Zones.{Zone, zone-rows}
 use Rattle.rows.specs.Ops.{rounded}
 use Rattle.records.specs.AcNetwork.{AcNetwork}
-use Rattle.numbering.specs.Blocks.{before}
-use Rattle.numbering.specs.Numbering.{nvar, columnNumber, rowNumber, rowBlocks}
+use Rattle.numbering.specs.Numbering.{nvar, columnNumber, rowNumber}
+use Rattle.numbering.proofs.Numbers.{column-number, row-number, column-below, column-rises}
 use Rattle.rows.specs.Rows.{Constant, constant, constant64, minusOne, minusHalf, half, cell, written, Term, term, terms, zero64}
 use Rattle.rows.specs.Program.{nonzero}
 use Rattle.kkt.specs.Kkt.{arrow, kktRow, scaled, coneRow, coneBlock}
@@ -31,7 +31,11 @@ use Rattle.demand3.proofs.KktCount.{zero-is-zero}
 
 -- the first row of the cones
 abbrev pub cones : AcNetwork Float → ℕ
-cones G = before (rowBlocks G) 15
+cones G = rowNumber G (Jabr 0 0)
+
+-- the rows of a branch's cone of four
+pub jabr-at : (G : AcNetwork Float) (e l : ℕ) → rowNumber G (Jabr e l) ≡ cones G + 4 * e + l
+jabr-at G e l = omega (arith, row-number G (Jabr e l), row-number G (Jabr 0 0))
 
 -- 1 where the two are equal, else 0
 pub same : ℕ → ℕ → ℕ
@@ -136,7 +140,17 @@ module _ (G : AcNetwork Float) (s z : RowName → Float) (d q : ℕ) (ρ : ℕ �
 -- the cone of four rows
 module _ (G : AcNetwork Float) (sound : Sound G) (s z : RowName → Float) (e : ℕ) (he : e < G .m) (r c j : ℕ) where
   abbrev num4 : (l : ℕ) → rowNumber G (Jabr e l) ≡ cones G + 4 * e + l
-  num4 l = omega arith
+  num4 l = jabr-at G e l
+
+  -- the cone's columns ascend, and its two bus columns differ
+  columns : (columnNumber G (W (G .from e)) < columnNumber G (Wr e)) × (columnNumber G (W (G .to e)) < columnNumber G (Wr e))
+      × (columnNumber G (Wr e) < columnNumber G (Wi e)) × (columnNumber G (Wi e) < nvar G)
+  columns =
+      (column-rises G (W (G .from e)) (Wr e) (sound .fromBus e he) he (omega arith), column-rises G (W (G .to e)) (Wr e) (sound .toBus e he) he (omega arith),
+      column-rises G (Wr e) (Wi e) he he (omega arith), column-below G (Wi e) he)
+
+  apart : columnNumber G (W (G .from e)) ≡ columnNumber G (W (G .to e)) → ⊥
+  apart p = sound .apart e he (omega (arith, column-number G (W (G .from e)), column-number G (W (G .to e))))
 
   abbrev R : ℕ
   R = kktRow G (Jabr e j)
@@ -174,10 +188,9 @@ module _ (G : AcNetwork Float) (sound : Sound G) (s z : RowName → Float) (e : 
 
   one-column : U + same (columnNumber G (Wr e)) c + same (columnNumber G (Wi e)) c + Z4 ≤ 1
   one-column =
-      let hf : G .from e < G .n = sound .fromBus e he in
-      let ht : G .to e < G .n = sound .toBus e he in
+      let order = columns in
       ⊎-elim
-      (λ p. omega (arith, same-no (columnNumber G (W (G .to e))) c (λ q. sound .apart e he (omega arith)), same-no (columnNumber G (Wr e)) c (λ q. omega arith), same-no (columnNumber G (Wi e)) c (λ q. omega arith), z-low (omega arith)))
+      (λ p. omega (arith, same-no (columnNumber G (W (G .to e))) c (λ q. apart (omega arith)), same-no (columnNumber G (Wr e)) c (λ q. omega arith), same-no (columnNumber G (Wi e)) c (λ q. omega arith), z-low (omega arith)))
       (λ p. ⊎-elim
       (λ q. omega (arith, same-no (columnNumber G (Wr e)) c (λ y. omega arith), same-no (columnNumber G (Wi e)) c (λ y. omega arith), z-low (omega arith)))
       (λ q. ⊎-elim
@@ -209,8 +222,7 @@ module _ (G : AcNetwork Float) (sound : Sound G) (s z : RowName → Float) (e : 
   row-wide : nvar G + cones G + 4 * e + 4 ≤ c → times r c (coneRow G s z 4 (Jabr e) j) ≡ 0
   unfolding upTo
   row-wide l =
-      let hf : G .from e < G .n = sound .fromBus e he in
-      let ht : G .to e < G .n = sound .toBus e he in
+      let order = columns in
       omega (
         arith,
         split G s z 4 (cones G + 4 * e) (Jabr e) num4 r c j,
@@ -233,17 +245,17 @@ zone-jabr G sound s z r c b w bound e he hw =
     (λ j hj.
     record {
       order = omega arith;
-      under = λ l. gone G s z 4 (cones G + 4 * e) (Jabr e) (λ l. omega arith) r c j (λ q. omega arith);
-      over = λ l. gone G s z 4 (cones G + 4 * e) (Jabr e) (λ l. omega arith) r c j (λ q. omega arith);
+      under = λ l. gone G s z 4 (cones G + 4 * e) (Jabr e) (jabr-at G e) r c j (λ q. omega (arith, jabr-at G e j));
+      over = λ l. gone G s z 4 (cones G + 4 * e) (Jabr e) (jabr-at G e) r c j (λ q. omega (arith, jabr-at G e j));
       wide = λ l. row-wide G sound s z e he r c j (omega arith);
       few = ⊎-elim (λ p. omega (arith, row-twice G sound s z e he r c j))
           (λ p. elim (ℕ-discrete r (kktRow G (Jabr e j))) [
             | yes q ↦ omega (
               arith,
               row-once G sound s z e he r c j
-                  (λ t. p .1 (record { branch = e; below = he; row = ⊎-elim (λ y. inl (omega arith)) (λ y. inr (omega arith)) (t .0); col = t .1 })),
+                  (λ t. p .1 (record { branch = e; below = he; row = ⊎-elim (λ y. inl (omega (arith, jabr-at G e 0, jabr-at G e j))) (λ y. inr (omega (arith, jabr-at G e 3, jabr-at G e j))) (t .0); col = t .1 })),
             )
-            | no q ↦ omega (arith, gone G s z 4 (cones G + 4 * e) (Jabr e) (λ l. omega arith) r c j (λ y. q (sym y)))
+            | no q ↦ omega (arith, gone G s z 4 (cones G + 4 * e) (Jabr e) (jabr-at G e) r c j (λ y. q (sym y)))
           ])
           bound;
     })

@@ -16,9 +16,9 @@ use Rattle.lists.proofs.Ascending.{Asc, asc-join, times-append, times-turned}
 use Rattle.lists.proofs.Zones.{Zone, zone-nil, _next_, zone-fit, zone-each, zone-rows, zone-row}
 use Rattle.rows.specs.Ops.{rounded}
 use Rattle.records.specs.AcNetwork.{AcNetwork}
-use Rattle.numbering.specs.Blocks.{before}
-use Rattle.numbering.specs.Numbering.{nvar, ncon, columnNumber, rowNumber, rowBlocks}
-use Rattle.rows.specs.Rows.{Coefficient, Constant, constant, constant64, minusOne, minusHalf, half, Cell, cell, plain, single, ends, cells, terms}
+use Rattle.numbering.specs.Numbering.{nvar, ncon, columnKey, columnNumber, rowNumber}
+use Rattle.numbering.proofs.Numbers.{column-number, row-number, nvar-number, ncon-number, numbers, HasColumn, column-below, column-rises, row-below}
+use Rattle.rows.specs.Rows.{Coefficient, Constant, constant, constant64, minusOne, minusHalf, half, Cell, cell, plain, hits, single, ends, cells, terms}
 use Rattle.rows.specs.Rows as Rows
 use Rattle.rows.specs.Program.{equalities, inequalities, thermalFrom, thermalTo, secondOrder, everyRow, quadratic}
 use Rattle.kkt.specs.Kkt.{kktRow, plainRow, boundRow, coneBlock, kktOf}
@@ -29,51 +29,53 @@ use Rattle.numbering.specs.declared.RowName.{RowName}
 use Rattle.numbering.specs.declared.RowName.the-variants.{Pbal, Qbal, OhmPf, OhmQf, OhmPt, OhmQt, Wub, Wlb, Pgub, Pglb, Qgub, Qglb, Angub, Anglb, Segment, Jabr, Thermal}
 use Rattle.records.proofs.Sound.{Sound}
 use Rattle.rows.proofs.TermsUp.{Up, none, and, up-from, up-to, up-join, up-one, up-when, up-hits, up-pick, up-entries}
-use Rattle.demand3.proofs.KktCones.{cones, asc-nonzero, zone-jabr, zone-three}
+use Rattle.demand3.proofs.KktCones.{cones, jabr-at, asc-nonzero, zone-jabr, zone-three}
 
 module _ (G : AcNetwork Float) (sound : Sound G) where
   -- ---- the rows' cells by ascending column, from the first column to the last
   abbrev Rises : List (Cell Float) → Type 0
   Rises cs = Up G 0 (nvar G) cs
 
-  -- the row where block b starts
-  abbrev at : ℕ → ℕ
-  at b = nvar G + before (rowBlocks G) b
-
   rises : {lo hi : ℕ} {cs : List (Cell Float)} → hi ≤ nvar G → Up G lo hi cs → Rises cs
   rises h p = up-from 0 (omega arith) (up-to (nvar G) h p)
 
-  cost-column : (g t : ℕ) → g < G .k → t < G .segments g → columnNumber G (CostOf g) < nvar G
-  cost-column g t h l =
-      omega
-      (arith, sum-mono (g + 1) (G .k) (λ i. bit (G .piecewise i)) (omega arith), sum-next g (λ i. bit (G .piecewise i)), ap bit (sound .pieces g t h l))
+  -- the cells of a balance row: a generator's column each, the bus's, and a flow's column each at both ends
+  module _ (gen from to : ℕ → ColumnName) (v : Coefficient Float) (i : ℕ)
+      (gens : (j : ℕ) → columnNumber G (gen j) ≡ columnNumber G (gen 0) + j) (froms : (j : ℕ) → columnNumber G (from j) ≡ columnNumber G (from 0) + j)
+      (tos : (j : ℕ) → columnNumber G (to j) ≡ columnNumber G (to 0) + j) (p : columnNumber G (gen 0) + G .k ≤ columnNumber G (W i)) (q : columnNumber G (W i) < columnNumber G (from 0))
+      (r : columnNumber G (from 0) + G .m ≤ columnNumber G (to 0)) (t : columnNumber G (to 0) + G .m ≤ nvar G) where
+    up-balance : Rises (hits rounded G (G .k) (G .genBus) i gen Rows.one ++ (cell (W i) v ∷ []) ++ hits rounded G (G .m) (G .from) i from minusOne ++ hits rounded G (G .m) (G .to) i to minusOne)
+    up-balance =
+        rises t
+        (up-join
+        (up-join
+        (up-join (up-hits (G .k) (G .genBus) i gen Rows.one _ gens) p (up-one (W i) v))
+        (omega arith) (up-hits (G .m) (G .from) i from minusOne _ froms))
+        r (up-hits (G .m) (G .to) i to minusOne _ tos))
 
   up-pbal : (i : ℕ) → i < G .n → Rises (cells rounded G (Pbal i))
   up-pbal i l =
-      rises (omega arith)
-      (up-join
-      (up-join
-      (up-join (up-hits (G .k) (G .genBus) i Pg Rows.one (columnNumber G (Pg 0)) (λ j. omega arith)) (omega arith) (up-one (W i) (plain (neg (G .gs i)))))
-      (omega arith) (up-hits (G .m) (G .from) i Pf minusOne (columnNumber G (Pf 0)) (λ j. omega arith)))
-      (omega arith) (up-hits (G .m) (G .to) i Pt minusOne (columnNumber G (Pt 0)) (λ j. omega arith)))
+      up-balance Pg Pf Pt (plain (neg (G .gs i))) i (λ j. simp numbers (omega arith)) (λ j. simp numbers (omega arith)) (λ j. simp numbers (omega arith))
+      (simp numbers (omega arith)) (simp numbers (omega arith)) (simp numbers (omega arith)) (simp numbers (omega arith))
 
   up-qbal : (i : ℕ) → i < G .n → Rises (cells rounded G (Qbal i))
   up-qbal i l =
-      rises (omega arith)
-      (up-join
-      (up-join
-      (up-join (up-hits (G .k) (G .genBus) i Qg Rows.one (columnNumber G (Qg 0)) (λ j. omega arith)) (omega arith) (up-one (W i) (plain (G .bs i))))
-      (omega arith) (up-hits (G .m) (G .from) i Qf minusOne (columnNumber G (Qf 0)) (λ j. omega arith)))
-      (omega arith) (up-hits (G .m) (G .to) i Qt minusOne (columnNumber G (Qt 0)) (λ j. omega arith)))
+      up-balance Qg Qf Qt (plain (G .bs i)) i (λ j. simp numbers (omega arith)) (λ j. simp numbers (omega arith)) (λ j. simp numbers (omega arith))
+      (simp numbers (omega arith)) (simp numbers (omega arith)) (simp numbers (omega arith)) (simp numbers (omega arith))
 
   module _ (a b : ColumnName) (u v : Coefficient Float) (p : columnNumber G a < columnNumber G b) where
     up-two : columnNumber G b < nvar G → Rises (cell a u ∷ cell b v ∷ [])
     up-two h = rises (omega arith) (up-join (up-one a u) (omega arith) (up-one b v))
 
-    up-four : (c d : ColumnName) (x y : Coefficient Float) → columnNumber G b < columnNumber G c → columnNumber G c < columnNumber G d → columnNumber G d < nvar G
-        → Rises (cell a u ∷ cell b v ∷ cell c x ∷ cell d y ∷ [])
-    up-four c d x y q r t =
-        rises (omega arith) (up-join (up-one a u) (omega arith) (up-join (up-one b v) (omega arith) (up-join (up-one c x) (omega arith) (up-one d y))))
+  -- an Ohm row: the bus's column, the branch's two products and its flow
+  up-ohm : (i e : ℕ) (flow : ColumnName) {t u v x : Coefficient Float} → i < G .n → e < G .m → HasColumn G flow → columnKey (Wi e) .block < columnKey flow .block
+      → Rises (cell (W i) t ∷ cell (Wr e) u ∷ cell (Wi e) v ∷ cell flow x ∷ [])
+  up-ohm i e flow hi he hf later =
+      let last = column-below G flow hf in
+      let a = column-rises G (W i) (Wr e) hi he (omega arith) in
+      let b = column-rises G (Wr e) (Wi e) he he (omega arith) in
+      let c = column-rises G (Wi e) flow he hf later in
+      rises (omega arith) (up-join (up-one (W i) _) (omega arith) (up-join (up-one (Wr e) _) (omega arith) (up-join (up-one (Wi e) _) (omega arith) (up-one flow _))))
 
   up-alone : (c : ColumnName) (v : Constant) → columnNumber G c < nvar G → Rises (single rounded G c v)
   up-alone c v h = rises (omega arith) (up-one c (constant v))
@@ -91,81 +93,99 @@ module _ (G : AcNetwork Float) (sound : Sound G) where
       t = cell (W (G .to e)) (constant v)
 
       go : (x : Bool) → ltb (G .from e) (G .to e) ≡ x → Rises (cond x (f ∷ t ∷ []) (t ∷ f ∷ []))
-      go true q = up-two (W (G .from e)) (W (G .to e)) (constant u) (constant v) (omega (arith, ltb-true (G .from e) (G .to e) q)) (omega (arith, sound .toBus e he))
+      go true q =
+          up-two (W (G .from e)) (W (G .to e)) (constant u) (constant v)
+          (omega (arith, ltb-true (G .from e) (G .to e) q, column-number G (W (G .from e)), column-number G (W (G .to e)))) (column-below G (W (G .to e)) (sound .toBus e he))
       go false q = elim (ℕ-discrete (G .from e) (G .to e)) [
         | yes d ↦ absurd (sound .apart e he d)
-        | no d ↦ up-two (W (G .to e)) (W (G .from e)) (constant v) (constant u) (omega (arith, ltb-false (G .from e) (G .to e) q)) (omega (arith, sound .fromBus e he))
+        | no d ↦
+            up-two (W (G .to e)) (W (G .from e)) (constant v) (constant u)
+            (omega (arith, ltb-false (G .from e) (G .to e) q, column-number G (W (G .from e)), column-number G (W (G .to e)))) (column-below G (W (G .from e)) (sound .fromBus e he))
       ]
+
+  up-angle : (e : ℕ) (u v : Coefficient Float) → e < G .m → Rises (when (G .angled e) (cell (Wr e) u ∷ cell (Wi e) v ∷ []))
+  up-angle e u v he = up-when (G .angled e) (omega arith) (up-two (Wr e) (Wi e) _ _ (column-rises G (Wr e) (Wi e) he he (omega arith)) (column-below G (Wi e) he))
 
   up-jabr : (e l : ℕ) → e < G .m → Rises (cells rounded G (Jabr e l))
   up-jabr e l he =
       up-pick (omega arith)
-      (and (up-ends e he minusHalf minusHalf) (and (up-alone (Wr e) minusOne (omega arith)) (and (up-alone (Wi e) minusOne (omega arith)) (and (up-ends e he minusHalf half) none))))
+      (and (up-ends e he minusHalf minusHalf) (and (up-alone (Wr e) minusOne (column-below G (Wr e) he))
+      (and (up-alone (Wi e) minusOne (column-below G (Wi e) he)) (and (up-ends e he minusHalf half) none))))
       l
 
   up-thermal : (e l : ℕ) → e < G .m → Rises (cells rounded G (Thermal e l))
   up-thermal e l he =
       let m : 0 ≤ nvar G = omega arith in
       up-pick m
-      (and (Up.stop m) (and (up-alone (Pf e) minusOne (omega arith)) (and (up-alone (Qf e) minusOne (omega arith))
-      (and (Up.stop m) (and (up-alone (Pt e) minusOne (omega arith)) (and (up-alone (Qt e) minusOne (omega arith)) none))))))
+      (and (Up.stop m) (and (up-alone (Pf e) minusOne (column-below G (Pf e) he)) (and (up-alone (Qf e) minusOne (column-below G (Qf e) he))
+      (and (Up.stop m) (and (up-alone (Pt e) minusOne (column-below G (Pt e) he)) (and (up-alone (Qt e) minusOne (column-below G (Qt e) he)) none))))))
       l
 
   -- ---- the blocks of rows, for rows that keep to their own row
   module _ (r c b w : ℕ) (f : RowName → List Entry) (row : (x : RowName) → rowNumber G x < cones G → Rises (cells rounded G x) → Zone r c b w (kktRow G x) (kktRow G x + 1) (f x)) where
-    -- n rows from number p on
-    block : (p n : ℕ) (name : ℕ → RowName) → ((i : ℕ) → rowNumber G (name i) ≡ p + i) → ((i : ℕ) → i < n → Rises (cells rounded G (name i))) → (e : ℕ) → nvar G + p + n ≤ e → p + n ≤ cones G
-        → Zone r c b w (nvar G + p) e (each n (λ i. f (name i)))
-    block p n name num up e h top =
-        zone-rows (nvar G + p) n e (λ i. f (name i)) h (λ i l. zone-fit _ _ (omega (arith, num i)) (omega (arith, num i)) (row (name i) (omega (arith, num i)) (up i l)))
+    -- n rows that follow each other, to row e
+    block : (name : ℕ → RowName) (n e : ℕ) → ((i : ℕ) → rowNumber G (name i) ≡ rowNumber G (name 0) + i) → ((i : ℕ) → i < n → Rises (cells rounded G (name i)))
+        → rowNumber G (name 0) + n ≤ e → e ≤ cones G → Zone r c b w (kktRow G (name 0)) (nvar G + e) (each n (λ i. f (name i)))
+    block name n e num up h top =
+        zone-rows (kktRow G (name 0)) n (nvar G + e) (λ i. f (name i)) (omega arith)
+        (λ i l. zone-fit _ _ (omega (arith, num i)) (omega (arith, num i)) (row (name i) (omega (arith, num i)) (up i l)))
 
-    zone-equalities : Zone r c b w (at 0) (at 6) (equalities G f)
+    -- the rows of a block of the table, to those of the next
+    to : (name after : ℕ → RowName) (n : ℕ) → ((i : ℕ) → rowNumber G (name i) ≡ rowNumber G (name 0) + i) → ((i : ℕ) → i < n → Rises (cells rounded G (name i)))
+        → rowNumber G (name 0) + n ≤ rowNumber G (after 0) → rowNumber G (after 0) ≤ cones G → Zone r c b w (kktRow G (name 0)) (kktRow G (after 0)) (each n (λ i. f (name i)))
+    to name after n = block name n (rowNumber G (after 0))
+
+    zone-equalities : Zone r c b w (kktRow G (Pbal 0)) (kktRow G (Wub 0)) (equalities G f)
     zone-equalities =
-        block (before (rowBlocks G) 0) (G .n) Pbal (λ i. omega arith) up-pbal (at 1) (omega arith) (omega arith)
-        next block (before (rowBlocks G) 1) (G .n) Qbal (λ i. omega arith) up-qbal (at 2) (omega arith) (omega arith)
-        next block (before (rowBlocks G) 2) (G .m) OhmPf (λ e. omega arith)
-        (λ e l. up-four _ _ _ _ (omega (arith, sound .fromBus e l)) _ _ _ _ (omega arith) (omega arith) (omega arith)) (at 3) (omega arith) (omega arith)
-        next block (before (rowBlocks G) 3) (G .m) OhmQf (λ e. omega arith)
-        (λ e l. up-four _ _ _ _ (omega (arith, sound .fromBus e l)) _ _ _ _ (omega arith) (omega arith) (omega arith)) (at 4) (omega arith) (omega arith)
-        next block (before (rowBlocks G) 4) (G .m) OhmPt (λ e. omega arith)
-        (λ e l. up-four _ _ _ _ (omega (arith, sound .toBus e l)) _ _ _ _ (omega arith) (omega arith) (omega arith)) (at 5) (omega arith) (omega arith)
-        next block (before (rowBlocks G) 5) (G .m) OhmQt (λ e. omega arith)
-        (λ e l. up-four _ _ _ _ (omega (arith, sound .toBus e l)) _ _ _ _ (omega arith) (omega arith) (omega arith)) (at 6) (omega arith) (omega arith)
+        to Pbal Qbal (G .n) (λ i. simp numbers (omega arith)) up-pbal (simp numbers (omega arith)) (simp numbers (omega arith))
+        next to Qbal OhmPf (G .n) (λ i. simp numbers (omega arith)) up-qbal (simp numbers (omega arith)) (simp numbers (omega arith))
+        next to OhmPf OhmQf (G .m) (λ e. simp numbers (omega arith)) (λ e l. up-ohm (G .from e) e (Pf e) (sound .fromBus e l) l l (omega arith)) (simp numbers (omega arith)) (simp numbers (omega arith))
+        next to OhmQf OhmPt (G .m) (λ e. simp numbers (omega arith)) (λ e l. up-ohm (G .from e) e (Qf e) (sound .fromBus e l) l l (omega arith)) (simp numbers (omega arith)) (simp numbers (omega arith))
+        next to OhmPt OhmQt (G .m) (λ e. simp numbers (omega arith)) (λ e l. up-ohm (G .to e) e (Pt e) (sound .toBus e l) l l (omega arith)) (simp numbers (omega arith)) (simp numbers (omega arith))
+        next to OhmQt Wub (G .m) (λ e. simp numbers (omega arith)) (λ e l. up-ohm (G .to e) e (Qt e) (sound .toBus e l) l l (omega arith)) (simp numbers (omega arith)) (simp numbers (omega arith))
 
-    zone-costs : Zone r c b w (at 14) (at 15) (each (G .k) (λ g. each (G .segments g) (λ t. f (Segment g t))))
-    unfolding upTo
+    zone-costs : Zone r c b w (kktRow G (Segment 0 0)) (nvar G + cones G) (each (G .k) (λ g. each (G .segments g) (λ t. f (Segment g t))))
     zone-costs =
-        zone-fit _ _ (omega arith) (omega arith)
-        (zone-each (λ g. nvar G + (before (rowBlocks G) 14 + sum g (G .segments))) (G .k) (λ g. each (G .segments g) (λ t. f (Segment g t)))
-        (λ g hg. block (before (rowBlocks G) 14 + sum g (G .segments)) (G .segments g) (Segment g) (λ t. omega arith)
-        (λ t ht. up-two _ _ _ _ (omega arith) (cost-column g t hg ht)) _ (omega (arith, sum-next g (G .segments)))
-        (omega (arith, sum-next g (G .segments), sum-mono (g + 1) (G .k) (G .segments) (omega arith)))))
+        zone-fit _ _ (omega arith) (simp numbers (omega arith))
+        (zone-each (λ g. kktRow G (Segment g 0)) (G .k) (λ g. each (G .segments g) (λ t. f (Segment g t)))
+        (λ g hg. block (Segment g) (G .segments g) (rowNumber G (Segment (g + 1) 0)) (λ t. simp numbers (omega arith))
+        (λ t ht. up-two (Pg g) (CostOf g) _ _ (column-rises G (Pg g) (CostOf g) hg (hg, sound .pieces g t hg ht) (omega arith)) (column-below G (CostOf g) (hg, sound .pieces g t hg ht)))
+        (simp numbers (omega (arith, sum-next g (G .segments))))
+        (simp numbers (omega (arith, sum-mono (g + 1) (G .k) (G .segments) (omega arith))))))
 
-    zone-inequalities : Zone r c b w (at 6) (at 15) (inequalities G f)
+    zone-inequalities : Zone r c b w (kktRow G (Wub 0)) (nvar G + cones G) (inequalities G f)
+    unfolding upTo
     zone-inequalities =
-        block (before (rowBlocks G) 6) (G .n) Wub (λ i. omega arith) (λ i l. up-single (W i) Rows.one (G .bounded i) (omega arith)) (at 7) (omega arith) (omega arith)
-        next block (before (rowBlocks G) 7) (G .n) Wlb (λ i. omega arith) (λ i l. up-single (W i) minusOne (G .bounded i) (omega arith)) (at 8) (omega arith) (omega arith)
-        next block (before (rowBlocks G) 8) (G .k) Pgub (λ i. omega arith) (λ i l. up-single (Pg i) Rows.one (G .capable i) (omega arith)) (at 9) (omega arith) (omega arith)
-        next block (before (rowBlocks G) 9) (G .k) Pglb (λ i. omega arith) (λ i l. up-single (Pg i) minusOne (G .capable i) (omega arith)) (at 10) (omega arith) (omega arith)
-        next block (before (rowBlocks G) 10) (G .k) Qgub (λ i. omega arith) (λ i l. up-single (Qg i) Rows.one (G .capable i) (omega arith)) (at 11) (omega arith) (omega arith)
-        next block (before (rowBlocks G) 11) (G .k) Qglb (λ i. omega arith) (λ i l. up-single (Qg i) minusOne (G .capable i) (omega arith)) (at 12) (omega arith) (omega arith)
-        next block (before (rowBlocks G) 12) (G .m) Angub (λ i. omega arith) (λ e l. up-when (G .angled e) (omega arith) (up-two _ _ _ _ (omega arith) (omega arith))) (at 13) (omega arith) (omega arith)
-        next block (before (rowBlocks G) 13) (G .m) Anglb (λ i. omega arith) (λ e l. up-when (G .angled e) (omega arith) (up-two _ _ _ _ (omega arith) (omega arith))) (at 14) (omega arith) (omega arith)
+        to Wub Wlb (G .n) (λ i. simp numbers (omega arith)) (λ i l. up-single (W i) Rows.one (G .bounded i) (column-below G (W i) l)) (simp numbers (omega arith)) (simp numbers (omega arith))
+        next to Wlb Pgub (G .n) (λ i. simp numbers (omega arith)) (λ i l. up-single (W i) minusOne (G .bounded i) (column-below G (W i) l)) (simp numbers (omega arith)) (simp numbers (omega arith))
+        next to Pgub Pglb (G .k) (λ i. simp numbers (omega arith)) (λ g l. up-single (Pg g) Rows.one (G .capable g) (column-below G (Pg g) l)) (simp numbers (omega arith)) (simp numbers (omega arith))
+        next to Pglb Qgub (G .k) (λ i. simp numbers (omega arith)) (λ g l. up-single (Pg g) minusOne (G .capable g) (column-below G (Pg g) l)) (simp numbers (omega arith)) (simp numbers (omega arith))
+        next to Qgub Qglb (G .k) (λ i. simp numbers (omega arith)) (λ g l. up-single (Qg g) Rows.one (G .capable g) (column-below G (Qg g) l)) (simp numbers (omega arith)) (simp numbers (omega arith))
+        next to Qglb Angub (G .k) (λ i. simp numbers (omega arith)) (λ g l. up-single (Qg g) minusOne (G .capable g) (column-below G (Qg g) l)) (simp numbers (omega arith)) (simp numbers (omega arith))
+        next to Angub Anglb (G .m) (λ i. simp numbers (omega arith)) (λ e l. up-angle e _ _ l) (simp numbers (omega arith)) (simp numbers (omega arith))
+        next to Anglb (λ t. Segment t 0) (G .m) (λ i. simp numbers (omega arith)) (λ e l. up-angle e _ _ l) (simp numbers (omega arith)) (simp numbers (omega arith))
         next zone-costs
 
   -- ---- the second-order cones
   abbrev pub dim : ℕ
   dim = nvar G + ncon G
 
-  abbrev ranks : ℕ → ℕ
-  ranks e = sum e (λ i. bit (G .limited i))
+  cones-few : cones G ≤ ncon G
+  cones-few = simp numbers (omega arith)
 
-  -- the number before a limited branch's rows, and that they end before the last row
+  -- the rows of a limited branch: the first, and each after it
   abbrev first : ℕ → ℕ
-  first e = before (rowBlocks G) 16 + 6 * ranks e
+  first e = rowNumber G (Thermal e 0)
 
-  inside : (e : ℕ) → e < G .m → G .limited e ≡ true → ranks e + 1 ≤ ranks (G .m)
-  inside e he q = omega (arith, sum-mono (e + 1) (G .m) (λ i. bit (G .limited i)) (omega arith), sum-next e (λ i. bit (G .limited i)), ap bit q)
+  thermal-at : (e q : ℕ) → rowNumber G (Thermal e q) ≡ first e + q
+  thermal-at e q = simp numbers (omega arith)
+
+  -- they end before those of the next branch, and before the last row
+  thermal-next : (e : ℕ) → first (e + 1) ≡ first e + 6 * bit (G .limited e)
+  thermal-next e = simp numbers (omega (arith, sum-next e (λ i. bit (G .limited i))))
+
+  inside : (e : ℕ) → e < G .m → G .limited e ≡ true → first e + 6 ≤ ncon G
+  inside e he q = omega (arith, thermal-at e 5, row-below G (Thermal e 5) (he, q, omega arith))
 
   module _ (r c b w : ℕ) (h : ℕ → (ℕ → RowName) → List Entry)
       (four : (e : ℕ) → e < G .m → Zone r c b w (nvar G + cones G + 4 * e) (nvar G + cones G + 4 * e + 4) (h 4 (Jabr e)))
@@ -175,17 +195,17 @@ module _ (G : AcNetwork Float) (sound : Sound G) where
         → Zone r c b w (nvar G + first e) (nvar G + first (e + 1)) (when x (h 3 (thermalFrom e) ++ h 3 (thermalTo e)))
     thermal e he true q =
         let here = ap bit q in
+        let after = thermal-next e in
         let both : Zone r c b w (nvar G + first e) (nvar G + first e + 6) (h 3 (thermalFrom e) ++ h 3 (thermalTo e)) =
         threeF e he q next zone-fit (nvar G + first e + 3) (nvar G + first e + 6) (omega arith) (omega arith) (threeT e he q) in
-        zone-fit _ _ (omega arith) (omega (arith, sum-next e (λ i. bit (G .limited i)), here)) both
-    thermal e he false q = zone-nil _ _ (omega (arith, sum-next e (λ i. bit (G .limited i))))
+        zone-fit _ _ (omega arith) (omega arith) both
+    thermal e he false q = zone-nil _ _ (omega (arith, thermal-next e))
 
-    zone-second : Zone r c b w (at 15) dim (secondOrder G h)
-    unfolding upTo
+    zone-second : Zone r c b w (nvar G + cones G) dim (secondOrder G h)
     zone-second =
-        zone-fit (at 15) (at 16) (omega arith) (omega arith)
+        zone-fit (nvar G + cones G) (nvar G + first 0) (omega arith) (simp numbers (omega arith))
         (zone-each (λ e. nvar G + cones G + 4 * e) (G .m) (λ e. h 4 (Jabr e)) (λ e he. zone-fit _ _ (omega arith) (omega arith) (four e he)))
-        next zone-fit (at 16) dim (omega arith) (omega arith)
+        next zone-fit (nvar G + first 0) dim (omega arith) (simp numbers (omega arith))
         (zone-each (λ e. nvar G + first e) (G .m) (λ e. when (G .limited e) (h 3 (thermalFrom e) ++ h 3 (thermalTo e))) (λ e he. thermal e he (G .limited e) refl))
 
   -- ---- the whole list
@@ -195,6 +215,7 @@ module _ (G : AcNetwork Float) (sound : Sound G) where
 
     bound-row : (b : ℕ) → 1 ≤ b → (x : RowName) → rowNumber G x < cones G → Rises (cells rounded G x) → Zone r c b dim (kktRow G x) (kktRow G x + 1) (boundRow G s z x)
     bound-row b one x l u =
+        let few = cones-few in
         zone-row dim one (omega arith)
         (asc-join (up-entries x (kktRow G x) (λ t. mul binary64 (neg (z x)) (t .coef)) u) (omega arith) (alone (kktRow G x) (s x)))
       where
@@ -209,20 +230,21 @@ module _ (G : AcNetwork Float) (sound : Sound G) where
         (zone-equalities c r 1 (nvar G) (plainRow G) (λ x l. row x)
         next zone-inequalities c r 1 (nvar G) (plainRow G) (λ x l. row x)
         next zone-second c r 1 (nvar G) (λ d x. each d (λ l. plainRow G (x l)))
-        (λ e he. zone-rows _ 4 _ (λ l. plainRow G (Jabr e l)) (omega arith) (λ l hl. zone-fit _ _ (omega arith) (omega arith) (row (Jabr e l) (up-jabr e l he))))
-        (λ e he q. zone-rows _ 3 _ (λ l. plainRow G (thermalFrom e l)) (omega arith) (λ l hl. zone-fit _ _ (omega arith) (omega arith) (row (thermalFrom e l) (up-thermal e l he))))
-        (λ e he q. zone-rows _ 3 _ (λ l. plainRow G (thermalTo e l)) (omega arith) (λ l hl. zone-fit _ _ (omega arith) (omega arith) (row (thermalTo e l) (up-thermal e (3 + l) he)))))
+        (λ e he. zone-rows _ 4 _ (λ l. plainRow G (Jabr e l)) (omega arith) (λ l hl. let at = jabr-at G e l in zone-fit _ _ (omega arith) (omega arith) (row (Jabr e l) (up-jabr e l he))))
+        (λ e he q. zone-rows _ 3 _ (λ l. plainRow G (thermalFrom e l)) (omega arith) (λ l hl. let at = thermal-at e l in zone-fit _ _ (omega arith) (omega arith) (row (thermalFrom e l) (up-thermal e l he))))
+        (λ e he q. zone-rows _ 3 _ (λ l. plainRow G (thermalTo e l)) (omega arith) (λ l hl. let at = thermal-at e (3 + l) in zone-fit _ _ (omega arith) (omega arith) (row (thermalTo e l) (up-thermal e (3 + l) he)))))
 
     zone-quadratic : Zone r c 1 (G .k) 0 (G .k) (quadratic G)
     unfolding quadratic
     zone-quadratic =
         zone-rows 0 (G .k) (G .k) _ (omega arith)
-        (λ g l. zone-fit _ _ (omega arith) (omega arith) (zone-row (G .k) (omega arith) (omega arith) (asc-nonzero (columnNumber G (Pg g)) (columnNumber G (Pg g)) (mul binary64 (rounded .two) (G .cq g)))))
+        (λ g l. let here = column-number G (Pg g) in zone-fit _ _ (omega arith) (omega arith) (zone-row (G .k) (omega arith) (omega arith) (asc-nonzero (columnNumber G (Pg g)) (columnNumber G (Pg g)) (mul binary64 (rounded .two) (G .cq g)))))
 
     zone-head : (b : ℕ) → 1 ≤ b → Zone r c b dim 0 (nvar G) (quadratic G ++ map turned (everyRow G (plainRow G)))
     zone-head b one =
         let sum2 = times-append r c (quadratic G) (map turned (everyRow G (plainRow G))) in
         let t = times-turned r c (everyRow G (plainRow G)) in
+        let columns = nvar-number G in
         record {
           order = omega arith;
           under = λ l. omega arith;
@@ -239,11 +261,13 @@ module _ (G : AcNetwork Float) (sound : Sound G) where
     zone-kkt b k =
         let one : 1 ≤ b = ⊎-elim (λ e. omega arith) (λ e. omega arith) k in
         zone-head b one
-        next zone-fit (nvar G) (at 6) (omega arith) (omega arith) (zone-equalities r c b dim (plainRow G) (λ x l. plain-row r c b one dim (omega arith) x))
+        next zone-fit (nvar G) (kktRow G (Wub 0)) (omega arith) (omega arith) (zone-equalities r c b dim (plainRow G) (λ x l. plain-row r c b one dim (omega arith) x))
         next zone-inequalities r c b dim (boundRow G s z) (bound-row b one)
-        next zone-second r c b dim (coneBlock G s z) (λ e he. zone-jabr G sound s z r c b dim k e he (omega arith))
-        (λ e he q. zone-three G s z (first e) (thermalFrom e) (λ l. omega arith) (Pf e) (Qf e) (constant64 minusOne) (constant64 minusOne) refl refl refl (omega arith) (omega arith) r c b dim one (omega (arith, inside e he q)))
-        (λ e he q. zone-three G s z (first e + 3) (thermalTo e) (λ l. omega arith) (Pt e) (Qt e) (constant64 minusOne) (constant64 minusOne) refl refl refl (omega arith) (omega arith) r c b dim one (omega (arith, inside e he q)))
+        next zone-second r c b dim (coneBlock G s z) (λ e he. zone-jabr G sound s z r c b dim k e he (omega (arith, jabr-at G e 3, row-below G (Jabr e 3) (he, omega arith))))
+        (λ e he q. zone-three G s z (first e) (thermalFrom e) (thermal-at e) (Pf e) (Qf e) (constant64 minusOne) (constant64 minusOne) refl refl refl
+        (column-rises G (Pf e) (Qf e) he he (omega arith)) (column-below G (Qf e) he) r c b dim one (omega (arith, inside e he q)))
+        (λ e he q. zone-three G s z (first e + 3) (thermalTo e) (λ l. omega (arith, thermal-at e (3 + l))) (Pt e) (Qt e) (constant64 minusOne) (constant64 minusOne) refl refl refl
+        (column-rises G (Pt e) (Qt e) he he (omega arith)) (column-below G (Qt e) he) r c b dim one (omega (arith, inside e he q)))
 
     pub kkt-twice : times r c (kktOf G s z) ≤ 2
     kkt-twice = zone-kkt 2 (inl refl) .few

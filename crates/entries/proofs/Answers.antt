@@ -23,6 +23,7 @@ use Rattle.records.proofs.Sound.{sound}
 use Rattle.numbering.specs.Laid.{netOf, Laid}
 use Rattle.numbering.specs.declared.SocWrLayout.{SocWrLayout}
 use Rattle.numbering.proofs.Laid.{limits-are}
+use Rattle.demand3.specs.Demand3.{entryBound}
 use Rattle.kkt.specs.Kkt.{kkt}
 use Rattle.demand3.proofs.Demand3.{kkt-places}
 use Rattle.solution.specs.Lengths.{solutionCause}
@@ -30,14 +31,14 @@ use Rattle.solution.proofs.Lengths.{both-long}
 use Rattle.rows.specs.Program.{inequalities}
 use Rattle.numbering.specs.declared.RowName.the-variants.{Wub}
 use Rattle.complementarity.specs.Writes.{Given, rowIn}
-use Rattle.entries.specs.Answer.{roomCause, Answered, mostOf}
+use Rattle.entries.specs.Answer.{roomCause, Answered}
 
 module _ {l : SocWrLayout} {bytes : List ℕ} where
   pub given : {x z : List Float} → Laid l bytes → solutionCause (netOf l bytes) (length x) (length z) ≡ Accepted → Given l bytes x z
   given h e = let p = both-long _ _ _ e in record { laid = h; x-length = p .0; z-length = p .1 }
 
   -- the list is not longer than demand 3 says
-  pub short : {x z : List Float} → Given l bytes x z → (length (kkt (netOf l bytes) x z) ≤ mostOf l) × (mostOf l + l .n < 2 ^ 31)
+  pub short : {x z : List Float} → Given l bytes x z → (length (kkt (netOf l bytes) x z) ≤ entryBound l) × (entryBound l + l .n < 2 ^ 31)
   short {x} {z} g =
       let h = g .laid in
       let q = h .range in

@@ -1,5 +1,5 @@
 -- What `kkt_entries` answers and leaves in the three lists.
-use Prim.Native.Nat.{ℕ, _+_, _*_}
+use Prim.Native.Nat.{ℕ}
 use mathlib.Core.Path.{_≡_}
 use mathlib.Core.List.{List, map}
 use lib.ListN.{length}
@@ -10,7 +10,6 @@ use Rattle.refusals.specs.declared.Checked.{Checked}
 use Rattle.refusals.specs.declared.Written.{Written}
 use Rattle.records.specs.Network.{networkOf}
 use Rattle.records.specs.Check.{checkOf}
-use Rattle.numbering.specs.declared.SocWrLayout.{SocWrLayout}
 use Rattle.solution.specs.Lengths.{solutionCause}
 use Rattle.kkt.specs.Kkt.{kkt}
 
@@ -32,7 +31,3 @@ pub record Answered (check : Checked) (es : List Entry) (rs cs : List ℕ) (vs :
   pub rows : rs′ ≡ leftIn check (map rowOf es) rs
   pub cols : cs′ ≡ leftIn check (map colOf es) cs
   pub vals : vs′ ≡ leftIn check (map valOf es) vs
-
--- the most entries that a network of these counts can have (demand 3)
-abbrev pub mostOf : SocWrLayout → ℕ
-mostOf l = 10 * l .n + 17 * l .k + 82 * l .m + 5 * l .s + 26 * l .t

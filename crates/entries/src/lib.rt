@@ -15,14 +15,15 @@ ghost use Rattle.records.specs.Network.{networkOf};
 ghost use Rattle.numbering.specs.Layout.{InRange};
 ghost use Rattle.numbering.specs.Laid.{netOf, Laid};
 ghost use Rattle.kkt.specs.Kkt.{kkt};
+ghost use Rattle.demand3.specs.Demand3.{entryBound, Demanded};
 ghost use Rattle.refusals.specs.Refusals.{_orElse_};
 ghost use Rattle.solution.specs.Lengths.{solutionCause};
 ghost use Rattle.complementarity.specs.Writes.{Given};
-ghost use Rattle.entries.specs.Answer.{roomCause, kktCheck, Answered, mostOf};
+ghost use Rattle.entries.specs.Answer.{roomCause, kktCheck, Answered};
 
 fn most(l: SocWrLayout) -> usize
     requires { ⌜ InRange l ⌝ }
-    ensures { λ r. ⌜ r ≡ mostOf l ⌝ }
+    ensures { λ r. ⌜ r ≡ entryBound l ⌝ }
 {
     10 * l.n + 17 * l.k + 82 * l.m + 5 * l.s + 26 * l.t
 }
@@ -112,6 +113,7 @@ pub fn kkt_entries(
     vals: &mut [f64],
 ) -> Written
     ensures { λ w. ⌜ Answered (kktCheck n m k s (now (bytes .entry)) (now (x .entry)) (now (z .entry)) (now (rows .entry)) (now (cols .entry)) (now (vals .entry))) (kkt (networkOf n m k s (now (bytes .entry))) (now (x .entry)) (now (z .entry))) (now (rows .entry)) (now (cols .entry)) (now (vals .entry)) (now (rows .exit)) (now (cols .exit)) (now (vals .exit)) w ⌝ }
+    ensures { λ _. ⌜ Demanded n m k s (now (bytes .entry)) (now (x .entry)) (now (z .entry)) ⌝ }
 {
     let check = records::check_records(n, m, k, s, bytes);
     if is_refused(check) {

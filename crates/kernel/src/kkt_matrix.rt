@@ -8,6 +8,7 @@ ghost use Rattle.lists.specs.Entries.{rowOf, colOf, valOf};
 ghost use Rattle.refusals.specs.Refusals.{writtenIf, leftIn};
 ghost use Rattle.records.specs.Network.{networkOf};
 ghost use Rattle.kkt.specs.Kkt.{kkt};
+ghost use Rattle.demand3.specs.Demand3.{Demanded};
 ghost use Rattle.entries.specs.Answer.{kktCheck};
 ghost use Rattle.kernel.specs.Answers.{WrittenAnswer};
 
@@ -28,6 +29,7 @@ pub extern "C" fn socwr_kkt_entries(
     ensures { λ _. ⌜ now (rows .exit) ≡ leftIn (kktCheck n m k s (now (records .entry)) (now (x .entry)) (now (z .entry)) (now (rows .entry)) (now (cols .entry)) (now (values .entry))) (map rowOf (kkt (networkOf n m k s (now (records .entry))) (now (x .entry)) (now (z .entry)))) (now (rows .entry)) ⌝ }
     ensures { λ _. ⌜ now (cols .exit) ≡ leftIn (kktCheck n m k s (now (records .entry)) (now (x .entry)) (now (z .entry)) (now (rows .entry)) (now (cols .entry)) (now (values .entry))) (map colOf (kkt (networkOf n m k s (now (records .entry))) (now (x .entry)) (now (z .entry)))) (now (cols .entry)) ⌝ }
     ensures { λ _. ⌜ now (values .exit) ≡ leftIn (kktCheck n m k s (now (records .entry)) (now (x .entry)) (now (z .entry)) (now (rows .entry)) (now (cols .entry)) (now (values .entry))) (map valOf (kkt (networkOf n m k s (now (records .entry))) (now (x .entry)) (now (z .entry)))) (now (values .entry)) ⌝ }
+    ensures { λ _. ⌜ Demanded n m k s (now (records .entry)) (now (x .entry)) (now (z .entry)) ⌝ }
 {
     let w = entries::kkt_entries(
         n as usize,
