@@ -78,11 +78,11 @@ column-of (Qf e) = refl
 column-of (Qt e) = refl
 column-of (CostOf g) = refl
 
-added-append : (xs ys : List ℕ) → added (xs ++ ys) ≡ added xs + added ys
+pub added-append : (xs ys : List ℕ) → added (xs ++ ys) ≡ added xs + added ys
 added-append [] ys = omega arith
 added-append (x ∷ xs) ys = omega (arith, added-append xs ys)
 
-added-replicate : (n w : ℕ) → added (replicate n w) ≡ w * n
+pub added-replicate : (n w : ℕ) → added (replicate n w) ≡ w * n
 added-replicate zero w = omega arith
 added-replicate (suc n) w = omega (arith, added-replicate n w)
 
