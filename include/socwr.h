@@ -1,7 +1,9 @@
 /* SOCWR on the small controller: the entries of libkernel.a, for C99 and C++.
    A slice is a pointer and then its length in elements; a length of 0 may come with any pointer. What a call writes
    to overlaps nothing else that is lent to it.
-   A refusal changes nothing lent; output past the length needed is unchanged. */
+   A refusal changes nothing lent; output past the length needed is unchanged.
+   The bits of a NaN that is written or returned are free. The proofs do not tell one NaN from another: that a NaN which a
+   call leaves alone stays a NaN is proved, that it keeps its bits is tested, of every entry with lists of doubles. */
 #ifndef SOCWR_H
 #define SOCWR_H
 

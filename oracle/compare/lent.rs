@@ -1,6 +1,7 @@
 //! Memory that is lent to an entry, with guards around it, and what became of it.
+//! Contracts do not tell one NaN from another, so what is to be left alone holds NaNs and is compared by bits.
 
-use crate::random::same;
+use crate::random::nan;
 
 /// Guards on each side, in elements.
 const GUARD: usize = 9;
@@ -11,9 +12,9 @@ pub trait Element: Copy + std::fmt::Debug {
     fn mark(at: usize) -> Self;
     /// The same bits throughout.
     fn identical(a: &[Self], b: &[Self]) -> bool;
-    /// The same, no number counting as no number.
-    fn agree(a: &[Self], b: &[Self]) -> bool {
-        Self::identical(a, b)
+    /// What was written over `before` is `want`, any NaN standing for a NaN.
+    fn written(got: &[Self], want: &[Self], _before: &[Self]) -> bool {
+        Self::identical(got, want)
     }
 }
 
@@ -36,14 +37,23 @@ impl Element for u32 {
 }
 
 impl Element for f64 {
+    /// Seven in eight are NaNs, none of them one that a list hands over or a computation makes: those end in 0.
     fn mark(at: usize) -> f64 {
-        f64::from_bits(0xc0a5_a500_0000_0000 ^ (at as u64).wrapping_mul(0x9_e377_9b97))
+        if at % 8 == 0 {
+            f64::from_bits(0xc0a5_a500_0000_0000 ^ (at as u64).wrapping_mul(0x9_e377_9b97))
+        } else {
+            nan(at as u64, 1)
+        }
     }
     fn identical(a: &[f64], b: &[f64]) -> bool {
         a.len() == b.len() && a.iter().zip(b).all(|(a, b)| a.to_bits() == b.to_bits())
     }
-    fn agree(a: &[f64], b: &[f64]) -> bool {
-        a.len() == b.len() && a.iter().zip(b).all(|(&a, &b)| same(a, b))
+    /// A NaN that was there before does not count as written.
+    fn written(got: &[f64], want: &[f64], before: &[f64]) -> bool {
+        let one = |((got, want), before): ((&f64, &f64), &f64)| {
+            got.to_bits() == want.to_bits() || (got.is_nan() && want.is_nan() && got.to_bits() != before.to_bits())
+        };
+        got.len() == want.len() && got.iter().zip(want).zip(before).all(one)
     }
 }
 
@@ -60,9 +70,9 @@ impl<T: Element> Lent<T> {
         Lent { before: all.clone(), all }
     }
 
-    /// `length` elements that are to be written.
+    /// `length` elements that are to be written. The marks move with the length, so that each place has had every kind.
     pub fn blank(length: usize) -> Self {
-        let all: Vec<T> = (0..length + 2 * GUARD).map(T::mark).collect();
+        let all: Vec<T> = (length..2 * length + 2 * GUARD).map(T::mark).collect();
         Lent { before: all.clone(), all }
     }
 
@@ -83,7 +93,7 @@ impl<T: Element> Lent<T> {
     /// The front holds `want`, and nothing else was changed.
     pub fn holds(&self, want: &[T]) -> bool {
         let end = GUARD + want.len();
-        T::agree(&self.all[GUARD..end], want)
+        T::written(&self.all[GUARD..end], want, &self.before[GUARD..end])
             && T::identical(&self.all[..GUARD], &self.before[..GUARD])
             && T::identical(&self.all[end..], &self.before[end..])
     }

@@ -46,10 +46,20 @@ impl Random {
         (self.next() >> 20) as f64 / 8_796_093_022_208.0 - 1.0
     }
 
+    /// A float of a list: each NaN has a payload of its own.
+    pub fn listed(&mut self) -> f64 {
+        let x = self.float();
+        if x.is_nan() {
+            nan(self.0, 0)
+        } else {
+            x
+        }
+    }
+
     pub fn floats(&mut self, count: usize) -> Vec<f64> {
         // One list in four is plain throughout, so that sums do not all end in NaN.
         let plain = self.once_in(4);
-        (0..count).map(|_| if plain { self.plain() } else { self.float() }).collect()
+        (0..count).map(|_| if plain { self.plain() } else { self.listed() }).collect()
     }
 
     /// Numbers below `end`; 0 where there are none.
@@ -77,6 +87,13 @@ const SPECIAL: [f64; 14] = [
 
 /// Past every end.
 pub const EXTREMES: [u64; 7] = [1 << 16, u32::MAX as u64, 1 << 32, (1 << 32) + 1, 1 << 63, u64::MAX - 1, u64::MAX];
+
+/// A NaN, quiet or signalling, of either sign, with a payload that depends on the seed and ends in this bit.
+pub fn nan(seed: u64, last: u64) -> f64 {
+    let mixed = seed.wrapping_add(1).wrapping_mul(0x9e37_79b9_7f4a_7c15);
+    let payload = mixed ^ (mixed >> 31);
+    f64::from_bits(payload & 0x800f_ffff_ffff_fffc | 0x7ff0_0000_0000_0002 | last)
+}
 
 /// Equal bits, or both no number.
 pub fn same(a: f64, b: f64) -> bool {

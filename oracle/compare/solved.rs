@@ -22,7 +22,7 @@ fn floats(random: &mut Random, count: usize) -> Vec<f64> {
     if !random.once_in(5) {
         return random.floats(count);
     }
-    (0..count).map(|_| if random.once_in(4) { random.float() } else { random.pick(&[0.0, -0.0]) }).collect()
+    (0..count).map(|_| if random.once_in(4) { random.listed() } else { random.pick(&[0.0, -0.0]) }).collect()
 }
 
 /// The list becomes shorter or longer.

@@ -222,12 +222,15 @@ static void causes(void) {
     refuses(lent(2, 1, 1, 0), no_x, 20, 99, 5, 2);
 }
 
-int main(void) {
+static void all(void) {
     example_k();
     each_kind();
     lengths();
     selectors();
     ids();
     causes();
-    return done("columns");
+}
+
+int main(void) {
+    return run("columns", all);
 }

@@ -83,6 +83,18 @@ static void selector_new(void) {
     EXPECT(is(socwr_selector_new(NULL, 0, NULL, 0, NULL, 0, NULL, 0, NULL, 0, NULL, 0), 10, 1));
 }
 
+/* Room for more than two items: what lies behind them is left alone. */
+static void selector_longer(void) {
+    numbers rows = NUMBERS(7, 8), elements = NUMBERS(3, 1);
+    uint32_t *starts = blank32(5), *to = blank32(3), *ids = blank32(6);
+    double *weights = blank64(9);
+    EXPECT(is(socwr_selector_new(GIVEN(rows), elements.at, 1, starts, 5, to, 3, weights, 9, ids, 6), 12, 0));
+    EXPECT(untouched(starts, 20) && untouched(to, 12) && untouched(weights, 72) && untouched(ids, 24));
+    EXPECT(is(socwr_selector_new(GIVEN(rows), GIVEN(elements), starts, 5, to, 3, weights, 9, ids, 6), 0, 2));
+    EXPECT(weights[0] == 1.0 && weights[1] == 1.0 && untouched(weights + 2, 56));
+    EXPECT(untouched(starts + 3, 8) && untouched(to + 2, 4) && untouched(ids + 2, 16));
+}
+
 /* The most items, and one more. */
 static void selector_limit(void) {
     uint64_t most = SOCWR_MOST_COLUMNS;
@@ -91,7 +103,7 @@ static void selector_limit(void) {
     EXPECT(is(socwr_selector_new(rows, most + 1, rows, most + 1, starts, most + 1, to, most, weights, most, ids, most), 12, 0));
     EXPECT(untouched(starts, 4 * (most + 1)) && untouched(weights, 8 * most));
     EXPECT(is(socwr_selector_new(rows + 1, most, rows + 1, most, starts, most + 1, to, most, weights, most, ids, most), 0, most));
-    EXPECT(starts[most] == most && weights[most - 1] == 1.0 && to[most - 1] == 0xa5a5a5a5u);
+    EXPECT(starts[most] == most && weights[most - 1] == 1.0 && to[most - 1] == rows[most]);
 }
 
 /* What the residual takes. */
@@ -172,6 +184,9 @@ static void transpose(void) {
     EXPECT(untouched(r, 12) && untouched(c, 12) && untouched(v, 24));
     EXPECT(is(socwr_transpose(2, GIVEN(rows), GIVEN(cols), GIVEN(values), r, 3, c, 3, v, 3), 0, 3));
     EXPECT(!memcmp(r, cols.at, 12) && !memcmp(c, rows.at, 12) && same(v, values.at, 3));
+    r = blank32(4), c = blank32(5), v = blank64(9);
+    EXPECT(is(socwr_transpose(2, GIVEN(rows), GIVEN(cols), GIVEN(values), r, 4, c, 5, v, 9), 0, 3));
+    EXPECT(same(v, values.at, 3) && untouched(v + 3, 48) && untouched(r + 3, 4) && untouched(c + 3, 8));
     EXPECT(is(socwr_transpose(SOCWR_MOST_DIM, NULL, 0, NULL, 0, NULL, 0, NULL, 0, NULL, 0, NULL, 0), 0, 0));
 }
 
@@ -272,10 +287,11 @@ static void broken_sizes(uint64_t mode) {
     if (mode == SOCWR_ADJOINT) c.rhs = FLOATS(1.0, 2.0, 3.0), refuses(c, 12, 0, __LINE__);
 }
 
-int main(void) {
+static void all(void) {
     unit_scale();
     max_abs();
     selector_new();
+    selector_longer();
     selector_limit();
     residual();
     residual_refuses();
@@ -286,5 +302,8 @@ int main(void) {
         broken_selector(mode);
         broken_sizes(mode);
     }
-    return done("interface and combination");
+}
+
+int main(void) {
+    return run("interface and combination", all);
 }

@@ -152,7 +152,7 @@ static void causes(void) {
     refuses(lent(2, 1, 1, 0), lent_at(floats, 1, floats, 1), 3, 4);
 }
 
-int main(void) {
+static void all(void) {
     example_f();
     whole_list();
     lengths();
@@ -160,5 +160,8 @@ int main(void) {
     segments();
     nothing();
     causes();
-    return done("KKT entries");
+}
+
+int main(void) {
+    return run("KKT entries", all);
 }

@@ -1,4 +1,5 @@
-/* Memory that ends at an unmapped page, and a count of what was expected and did not hold. */
+/* Memory that ends at an unmapped page, and a count of what was expected and did not hold.
+   The proofs do not tell one NaN from another, so every test is run on memory full of NaNs too, compared by bits. */
 #ifndef LEND_H
 #define LEND_H
 
@@ -22,6 +23,28 @@ static void expect(int fact, const char *what, int line) {
 
 #define EXPECT(fact) expect((fact), #fact, __LINE__)
 
+/* Whether memory that nothing was written to holds NaNs, else bytes 0xa5. */
+static int nans;
+
+/* A NaN, quiet or signalling, of either sign; its payload depends on the place and ends in this bit. */
+static uint64_t nan_bits(uint64_t place, uint64_t last) {
+    uint64_t mixed = (place + 1) * 0x9e3779b97f4a7c15u;
+    return ((mixed ^ mixed >> 31) & 0x800ffffffffffffcu) | 0x7ff0000000000002u | last;
+}
+
+/* What the eight bytes around an address hold before anything is written to them. */
+static uint64_t blank_word(uintptr_t at) {
+    return nans ? nan_bits(at / 8 % 512, 1) : 0xa5a5a5a5a5a5a5a5u;
+}
+
+/* The last maps that were lent. */
+#define MAPS 16
+static struct map {
+    uint8_t *all;
+    uint64_t bytes;
+} maps[MAPS];
+static uint64_t lends;
+
 /* So many bytes whose end is the start of a page that may not be touched. */
 static uint8_t *lend(uint64_t bytes) {
     uint64_t page = (uint64_t)sysconf(_SC_PAGESIZE);
@@ -31,8 +54,20 @@ static uint8_t *lend(uint64_t bytes) {
         perror("mmap");
         exit(2);
     }
-    memset(all + page, 0xa5, room);
+    maps[lends++ % MAPS] = (struct map){all, room + 2 * page};
+    for (uint8_t *to = all + page; to < all + page + room; to += 8) {
+        uint64_t word = blank_word((uintptr_t)to);
+        memcpy(to, &word, 8);
+    }
     return all + page + room - bytes;
+}
+
+/* Unmaps what was lent last, at most MAPS times. */
+static inline void give_back(int times) {
+    for (int i = 0; i < times; i++) {
+        struct map last = maps[--lends % MAPS];
+        munmap(last.all, last.bytes);
+    }
 }
 
 /* A copy that ends so, and may only be read. */
@@ -54,12 +89,15 @@ static const void *lend_read(const void *from, uint64_t bytes) {
 static int untouched(const void *lent, uint64_t bytes) {
     const uint8_t *at = lent;
     for (uint64_t i = 0; i < bytes; i++) {
-        if (at[i] != 0xa5) return 0;
+        uint64_t word = blank_word((uintptr_t)(at + i));
+        if (at[i] != ((const uint8_t *)&word)[(uintptr_t)(at + i) % 8]) return 0;
     }
     return 1;
 }
 
-static int done(const char *name) {
+/* Every fact on memory of bytes 0xa5, then on memory of NaNs. */
+static int run(const char *name, void (*all)(void)) {
+    for (nans = 0; nans < 2; nans++) all();
     printf("%s: %d facts, %d failed\n", name, held, failed);
     return failed != 0;
 }

@@ -50,13 +50,13 @@ static void make_q(int flags) {
     put(3, 3, 0, 0, 0, 0);
 }
 
-static network q(int flags) {
+static inline network q(int flags) {
     make_q(flags);
     return lent(2, 1, 1, 0);
 }
 
 /* Example D and E: one bus, two generators, the second piecewise with so many segments. */
-static network piecewise(int segments) {
+static inline network piecewise(int segments) {
     put(0, 1, 0, 0, 0, 0);
     put(1, 3, 0, 0, 0, 0);
     put(2, 3, 2, segments, 0, 0);

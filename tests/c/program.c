@@ -309,7 +309,7 @@ static void refusals(void) {
     all_refuse(lent(2, 1, 1, 0), 3, 4);
 }
 
-int main(void) {
+static void all(void) {
     a_of_q();
     p_q_b_of_q();
     capability();
@@ -321,5 +321,8 @@ int main(void) {
     reading_check();
     objective();
     refusals();
-    return done("program and reading");
+}
+
+int main(void) {
+    return run("program and reading", all);
 }

@@ -204,7 +204,7 @@ static void past_the_end(void) {
     }
 }
 
-int main(void) {
+static void all(void) {
     example_a();
     examples_b_c();
     examples_d_e();
@@ -212,5 +212,8 @@ int main(void) {
     counts_and_length();
     records();
     past_the_end();
-    return done("records and numbering");
+}
+
+int main(void) {
+    return run("records and numbering", all);
 }

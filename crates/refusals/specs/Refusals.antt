@@ -86,7 +86,9 @@ abbrev pub writtenValue : Written → ℕ
 writtenValue (Written.Count n) = n
 writtenValue (Written.Refused cause) = valueOf cause
 
--- "left as it was", and "output past the length needed is unchanged": what a lent list holds after xs was to be written to its front
+-- "left as it was", and "output past the length needed is unchanged": what a lent list holds after xs was to be written to its front.
+-- Floats have one nan (lib.Ieee): of a NaN that is left alone this says that it is a NaN still, not which bits it has. Those are run, not
+-- proved (README, 'Read the proofs').
 unfoldable pub leftIn : {A : Type 0} → Checked → List A → List A → List A
 leftIn Accepted xs ys = overlay xs ys
 leftIn (Refused cause) xs ys = ys

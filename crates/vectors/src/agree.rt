@@ -46,3 +46,22 @@ pub(crate) fn floats(list: &[f64]) -> bool {
     }
     same
 }
+
+// What a call leaves where NaNs are lent: a NaN where the list shows that nothing is written, else what the list holds.
+pub(crate) fn over_nans(list: &[f64], nans: &[f64]) -> bool {
+    let end = list.len();
+    let mut same = true;
+    let mut at = 0;
+    while at < end {
+        same = same & left_alike(float_at(list, at), float_at(nans, at));
+        at += 1;
+    }
+    same
+}
+
+fn left_alike(held: f64, over_nan: f64) -> bool {
+    if held == -1234.5 {
+        return over_nan != over_nan;
+    }
+    same_float(held, over_nan)
+}

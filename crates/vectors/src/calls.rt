@@ -267,10 +267,43 @@ fn with_s(
     s: &mut [f64],
     t: Tally,
 ) -> Tally {
+    let mut nans = parts::nans();
+    let end = parts::of_floats(h.writes.s, &nans);
+    t.answer(both(h, records, a, b, c, d, e, p, q, r, s, &mut nans[..end]))
+}
+
+// The call, and the same call where NaNs are lent. Its lists of numbers hold the answer already.
+fn both(
+    h: Head,
+    records: &[u8],
+    a: &[u32],
+    b: &[u32],
+    c: &[f64],
+    d: &[f64],
+    e: &[f64],
+    p: &mut [u32],
+    q: &mut [u32],
+    r: &mut [u32],
+    s: &mut [f64],
+    nans: &mut [f64],
+) -> bool {
     let got = answers::answer(h, records, a, b, c, d, e, p, q, r, s);
-    let same = answers::same(got, h.want);
-    let left = left_as_kept(p, q, r, s);
-    t.answer(same & left)
+    let again = answers::answer(h, records, a, b, c, d, e, p, q, r, nans);
+    agreed(h.want, got, again, p, q, r, s, nans)
+}
+
+fn agreed(
+    want: Answered,
+    got: Answered,
+    again: Answered,
+    p: &[u32],
+    q: &[u32],
+    r: &[u32],
+    s: &[f64],
+    nans: &[f64],
+) -> bool {
+    let same = answers::same(got, want) & answers::same(again, want);
+    same & left_as_kept(p, q, r, s) & agree::over_nans(s, nans)
 }
 
 // The written lists are the kept ones. All of them are read.

@@ -17,6 +17,13 @@ pub(crate) fn floats() -> [f64; 1024]
     [-1234.5; 1024]
 }
 
+// Room for floats that holds the NaN.
+pub(crate) fn nans() -> [f64; 1024]
+    ensures { λ r. ⌜ 1024 ≡ length r ⌝ }
+{
+    [0.0 / 0.0; 1024]
+}
+
 // count, or all of the bytes where there are fewer. Both facts are what a part up to r asks.
 pub(crate) fn of_bytes(count: u64, list: &[u8]) -> usize
     ensures { λ r. ⌜ (r ≤ length (now (list .entry))) × (r ≡ length (take r (now (list .entry)))) ⌝ }
