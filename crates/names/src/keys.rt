@@ -2,8 +2,9 @@
 use numbering::ColumnName;
 use numbering::Key;
 use numbering::RowName;
+use numbering::inner::blocks;
 ghost use mathlib.Core.Path.{_≡_};
-ghost use Prim.Native.Nat.{_<_, _≤_};
+ghost use Prim.Native.Nat.{_<_};
 ghost use Rattle.numbering.specs.Blocks.{key};
 ghost use Rattle.numbering.specs.Numbering.{columnKey, rowKey, SameKey};
 
@@ -12,52 +13,52 @@ pub fn column_key(name: ColumnName) -> Key
 {
     match name {
         ColumnName::Pg(i) => Key {
-            block: 0,
+            block: blocks::PG,
             item: i,
             place: 0,
         },
         ColumnName::Qg(i) => Key {
-            block: 1,
+            block: blocks::QG,
             item: i,
             place: 0,
         },
         ColumnName::W(i) => Key {
-            block: 2,
+            block: blocks::W,
             item: i,
             place: 0,
         },
         ColumnName::Wr(i) => Key {
-            block: 3,
+            block: blocks::WR,
             item: i,
             place: 0,
         },
         ColumnName::Wi(i) => Key {
-            block: 4,
+            block: blocks::WI,
             item: i,
             place: 0,
         },
         ColumnName::Pf(i) => Key {
-            block: 5,
+            block: blocks::PF,
             item: i,
             place: 0,
         },
         ColumnName::Pt(i) => Key {
-            block: 6,
+            block: blocks::PT,
             item: i,
             place: 0,
         },
         ColumnName::Qf(i) => Key {
-            block: 7,
+            block: blocks::QF,
             item: i,
             place: 0,
         },
         ColumnName::Qt(i) => Key {
-            block: 8,
+            block: blocks::QT,
             item: i,
             place: 0,
         },
         ColumnName::CostOf(i) => Key {
-            block: 9,
+            block: blocks::COST,
             item: i,
             place: 0,
         },
@@ -69,187 +70,167 @@ pub fn row_key(name: RowName) -> Key
 {
     match name {
         RowName::Pbal(i) => Key {
-            block: 0,
+            block: blocks::PBAL,
             item: i,
             place: 0,
         },
         RowName::Qbal(i) => Key {
-            block: 1,
+            block: blocks::QBAL,
             item: i,
             place: 0,
         },
         RowName::OhmPf(i) => Key {
-            block: 2,
+            block: blocks::OHM_PF,
             item: i,
             place: 0,
         },
         RowName::OhmQf(i) => Key {
-            block: 3,
+            block: blocks::OHM_QF,
             item: i,
             place: 0,
         },
         RowName::OhmPt(i) => Key {
-            block: 4,
+            block: blocks::OHM_PT,
             item: i,
             place: 0,
         },
         RowName::OhmQt(i) => Key {
-            block: 5,
+            block: blocks::OHM_QT,
             item: i,
             place: 0,
         },
         RowName::Wub(i) => Key {
-            block: 6,
+            block: blocks::WUB,
             item: i,
             place: 0,
         },
         RowName::Wlb(i) => Key {
-            block: 7,
+            block: blocks::WLB,
             item: i,
             place: 0,
         },
         RowName::Pgub(i) => Key {
-            block: 8,
+            block: blocks::PGUB,
             item: i,
             place: 0,
         },
         RowName::Pglb(i) => Key {
-            block: 9,
+            block: blocks::PGLB,
             item: i,
             place: 0,
         },
         RowName::Qgub(i) => Key {
-            block: 10,
+            block: blocks::QGUB,
             item: i,
             place: 0,
         },
         RowName::Qglb(i) => Key {
-            block: 11,
+            block: blocks::QGLB,
             item: i,
             place: 0,
         },
         RowName::Angub(i) => Key {
-            block: 12,
+            block: blocks::ANGUB,
             item: i,
             place: 0,
         },
         RowName::Anglb(i) => Key {
-            block: 13,
+            block: blocks::ANGLB,
             item: i,
             place: 0,
         },
         RowName::Segment(i, q) => Key {
-            block: 14,
+            block: blocks::SEGMENT,
             item: i,
             place: q,
         },
         RowName::Jabr(i, q) => Key {
-            block: 15,
+            block: blocks::JABR,
             item: i,
             place: q,
         },
         RowName::Thermal(i, q) => Key {
-            block: 16,
+            block: blocks::THERMAL,
             item: i,
             place: q,
         },
     }
 }
 
-// The column of a block's record, and the row at a place there.
-pub(crate) fn column_of(block: usize, item: usize) -> ColumnName
-    requires { ⌜ block < 10 ⌝ }
+// The column, and the row, of a record of a block whose records have one each.
+pub(crate) fn plain_column(block: usize, item: usize) -> ColumnName
+    requires { ⌜ block < 9 ⌝ }
     ensures { λ r. ⌜ SameKey (columnKey r) (key block item 0) ⌝ }
 {
-    if block < 1 {
+    if block <= blocks::PG {
         return ColumnName::Pg(item);
     }
-    if block < 2 {
+    if block <= blocks::QG {
         return ColumnName::Qg(item);
     }
-    if block < 3 {
+    if block <= blocks::W {
         return ColumnName::W(item);
     }
-    if block < 4 {
+    if block <= blocks::WR {
         return ColumnName::Wr(item);
     }
-    if block < 5 {
+    if block <= blocks::WI {
         return ColumnName::Wi(item);
     }
-    if block < 6 {
+    if block <= blocks::PF {
         return ColumnName::Pf(item);
     }
-    if block < 7 {
+    if block <= blocks::PT {
         return ColumnName::Pt(item);
     }
-    if block < 8 {
+    if block <= blocks::QF {
         return ColumnName::Qf(item);
     }
-    if block < 9 {
-        return ColumnName::Qt(item);
-    }
-    ColumnName::CostOf(item)
+    ColumnName::Qt(item)
 }
 
-// A row of one of the blocks whose records have one row each.
-fn plain_row(block: usize, item: usize) -> RowName
+pub(crate) fn plain_row(block: usize, item: usize) -> RowName
     requires { ⌜ block < 14 ⌝ }
     ensures { λ r. ⌜ SameKey (rowKey r) (key block item 0) ⌝ }
 {
-    if block < 1 {
+    if block <= blocks::PBAL {
         return RowName::Pbal(item);
     }
-    if block < 2 {
+    if block <= blocks::QBAL {
         return RowName::Qbal(item);
     }
-    if block < 3 {
+    if block <= blocks::OHM_PF {
         return RowName::OhmPf(item);
     }
-    if block < 4 {
+    if block <= blocks::OHM_QF {
         return RowName::OhmQf(item);
     }
-    if block < 5 {
+    if block <= blocks::OHM_PT {
         return RowName::OhmPt(item);
     }
-    if block < 6 {
+    if block <= blocks::OHM_QT {
         return RowName::OhmQt(item);
     }
-    if block < 7 {
+    if block <= blocks::WUB {
         return RowName::Wub(item);
     }
-    if block < 8 {
+    if block <= blocks::WLB {
         return RowName::Wlb(item);
     }
-    if block < 9 {
+    if block <= blocks::PGUB {
         return RowName::Pgub(item);
     }
-    if block < 10 {
+    if block <= blocks::PGLB {
         return RowName::Pglb(item);
     }
-    if block < 11 {
+    if block <= blocks::QGUB {
         return RowName::Qgub(item);
     }
-    if block < 12 {
+    if block <= blocks::QGLB {
         return RowName::Qglb(item);
     }
-    if block < 13 {
+    if block <= blocks::ANGUB {
         return RowName::Angub(item);
     }
     RowName::Anglb(item)
-}
-
-pub(crate) fn row_of(block: usize, item: usize, place: usize) -> RowName
-    requires { ⌜ (block < 17) × (block < 14 → place ≡ 0) ⌝ }
-    ensures { λ r. ⌜ SameKey (rowKey r) (key block item place) ⌝ }
-{
-    if block < 14 {
-        return plain_row(block, item);
-    }
-    if block < 15 {
-        return RowName::Segment(item, place);
-    }
-    if block < 16 {
-        return RowName::Jabr(item, place);
-    }
-    RowName::Thermal(item, place)
 }

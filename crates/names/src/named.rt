@@ -3,22 +3,19 @@ use crate::ColumnAnswer;
 use crate::RowAnswer;
 use crate::keys;
 use numbering::ColumnName;
-use numbering::Key;
 use numbering::RowName;
 use numbering::SocWrLayout;
 use numbering::Tally;
-use numbering::inner;
 use numbering::inner::blocks;
-use numbering::inner::tally;
+use numbering::inner::tally::locate;
+use numbering::layout::check_layout;
 use refusals::Checked;
 use refusals::Refusal;
 use refusals::is_refused;
 ghost use mathlib.Core.Path.{_≡_};
 ghost use Prim.Native.Nat.{_<_};
-ghost use Rattle.records.specs.Network.{Accepted, networkOf};
-ghost use Rattle.numbering.specs.Blocks.{KeyStands};
-ghost use Rattle.numbering.specs.Numbering.{columnBlocks, nvar, rowBlocks, ncon};
-ghost use Rattle.numbering.specs.Layout.{layoutOf};
+ghost use Rattle.numbering.specs.Numbering.{ColumnStands, nvar, RowStands, ncon};
+ghost use Rattle.numbering.specs.Laid.{netOf, Laid};
 ghost use Rattle.names.specs.Named.{columnAnswer, columnNamed, rowAnswer, rowNamed};
 ghost use Rattle.numbering.specs.declared.ColumnName.the-variants.{Pg};
 ghost use Rattle.numbering.specs.declared.RowName.the-variants.{Pbal};
@@ -42,103 +39,68 @@ fn no_row(check: Checked) -> RowAnswer
     }
 }
 
-// The key of column p of an accepted network, whose layout is l.
-fn column_key_at(
-    n: usize,
-    m: usize,
-    k: usize,
-    s: usize,
-    bytes: &[u8],
-    l: SocWrLayout,
-    p: usize,
-) -> Key
-    requires { ⌜ (Accepted n m k s (now bytes)) × (l ≡ layoutOf (networkOf n m k s (now bytes))) × (p < nvar (networkOf n m k s (now bytes))) ⌝ }
-    ensures { λ r. ⌜ KeyStands (columnBlocks (networkOf n m k s (now (bytes .entry)))) p r ⌝ }
+// The name of column p of accepted records.
+fn column_at(l: SocWrLayout, bytes: &[u8], p: usize) -> ColumnName
+    requires { ⌜ (Laid l (now bytes)) × (p < nvar (netOf l (now bytes))) ⌝ }
+    ensures { λ r. ⌜ ColumnStands (netOf l (now (bytes .entry))) p r ⌝ }
 {
     let sizes = blocks::column_sizes(l);
     let q = blocks::block_of(&sizes, p);
-    let block = q.item;
-    let at = q.at;
-    if block < 9 {
-        return Key {
-            block,
-            item: at,
-            place: 0,
-        };
+    if q.item < blocks::COST {
+        return keys::plain_column(q.item, q.at);
     }
-    let g = tally::locate(bytes, Tally::Piecewise, n + m, k, at);
-    Key {
-        block: 9,
-        item: g.item,
-        place: g.at,
-    }
+    let g = locate(bytes, Tally::Piecewise, l.n + l.m, l.k, q.at);
+    ColumnName::CostOf(g.item)
 }
 
-// The key of row p of an accepted network, whose layout is l.
-fn row_key_at(n: usize, m: usize, k: usize, s: usize, bytes: &[u8], l: SocWrLayout, p: usize) -> Key
-    requires { ⌜ (Accepted n m k s (now bytes)) × (l ≡ layoutOf (networkOf n m k s (now bytes))) × (p < ncon (networkOf n m k s (now bytes))) ⌝ }
-    ensures { λ r. ⌜ KeyStands (rowBlocks (networkOf n m k s (now (bytes .entry)))) p r ⌝ }
+// The name of row p of accepted records.
+fn row_at(l: SocWrLayout, bytes: &[u8], p: usize) -> RowName
+    requires { ⌜ (Laid l (now bytes)) × (p < ncon (netOf l (now bytes))) ⌝ }
+    ensures { λ r. ⌜ RowStands (netOf l (now (bytes .entry))) p r ⌝ }
 {
     let sizes = blocks::row_sizes(l);
     let q = blocks::block_of(&sizes, p);
-    let block = q.item;
     let at = q.at;
-    if block < 14 {
-        return Key {
-            block,
-            item: at,
-            place: 0,
-        };
+    if q.item < blocks::SEGMENT {
+        return keys::plain_row(q.item, at);
     }
-    if block == 14 {
-        let g = tally::locate(bytes, Tally::Segments, n + m, k, at);
-        return Key {
-            block: 14,
-            item: g.item,
-            place: g.at,
-        };
+    if q.item == blocks::SEGMENT {
+        let g = locate(bytes, Tally::Segments, l.n + l.m, l.k, at);
+        return RowName::Segment(g.item, g.at);
     }
-    if block == 15 {
-        return Key {
-            block: 15,
-            item: at / 4,
-            place: at % 4,
-        };
+    if q.item == blocks::JABR {
+        return RowName::Jabr(at / 4, at % 4);
     }
-    let e = tally::locate(bytes, Tally::Limited, n, m, at / 6);
-    Key {
-        block: 16,
-        item: e.item,
-        place: at % 6,
-    }
+    let e = locate(bytes, Tally::Limited, l.n, l.m, at / 6);
+    RowName::Thermal(e.item, at % 6)
 }
 
 pub fn column_name(n: usize, m: usize, k: usize, s: usize, bytes: &[u8], p: usize) -> ColumnAnswer
     ensures { λ r. ⌜ r ≡ columnNamed n m k s (now (bytes .entry)) p ⌝ }
 {
-    let check = records::check_records(n, m, k, s, bytes);
+    let checked = check_layout(n, m, k, s, bytes, 0);
+    let check = checked.check;
     if is_refused(check) {
         return no_column(check);
     }
-    let l = inner::layout(n, m, k, s, bytes);
+    let l = checked.layout;
     if l.column_count() as usize <= p {
         return ColumnAnswer::Refused(Refusal::PastEnd(p as u64));
     }
-    let x = column_key_at(n, m, k, s, bytes, l, p);
-    ColumnAnswer::Column(keys::column_of(x.block, x.item))
+    ColumnAnswer::Column(column_at(l, bytes, p))
 }
 
 pub fn row_name(n: usize, m: usize, k: usize, s: usize, bytes: &[u8], p: usize) -> RowAnswer
     ensures { λ r. ⌜ r ≡ rowNamed n m k s (now (bytes .entry)) p ⌝ }
 {
-    let check = records::check_records(n, m, k, s, bytes);
+    let checked = check_layout(n, m, k, s, bytes, 0);
+    let check = checked.check;
     if is_refused(check) {
         return no_row(check);
     }
-    let l = inner::layout(n, m, k, s, bytes);
+    let l = checked.layout;
     if l.row_count() as usize <= p {
         return RowAnswer::Refused(Refusal::PastEnd(p as u64));
     }
-    let x = row_key_at(n, m, k, s, bytes, l, p);
-    RowAnswer::Row(keys::row_of(x.block, x.item, x.place))
+    RowAnswer::Row(row_at(l, bytes, p))
 }

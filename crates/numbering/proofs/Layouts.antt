@@ -4,13 +4,15 @@ use mathlib.Core.Path.{_≡_, refl}
 use mathlib.Core.Bool.{Bool, true}
 use mathlib.Core.List.{List}
 use native.Mathlib.Omega.{arith}
-use borrow.Author.Tests.{leb-true}
+use borrow.Author.Tests.{leb-true, le-leb}
 use lib.Ieee.{Float}
 use Rattle.lists.specs.UpTo.{sum, bit, count}
 use Rattle.lists.proofs.Sums.{count-le, sum-next, sum-mono}
+use Rattle.refusals.specs.Refusals.{_orElse_, refuseUnless}
 use Rattle.refusals.specs.declared.Checked.the-variants.{Accepted}
 use Rattle.refusals.proofs.Laws.{orElse-accepted, test-held}
 use Rattle.records.specs.AcNetwork.{AcNetwork}
+use Rattle.records.specs.Check.{countCause}
 use Rattle.records.specs.Fields.{segmentsOf}
 use Rattle.records.specs.Network.{networkOf}
 use Rattle.records.specs.Network as Network
@@ -35,6 +37,12 @@ in-range l h =
       t-range = leb-true _ _ (test-held _ _ (b .0));
       c-range = leb-true _ _ (test-held _ _ (b .1));
     }
+
+-- and such a layout has no cause
+pub range-accepted : (l : SocWrLayout) → InRange l → layoutCause l ≡ Accepted
+unfolding layoutCause countCause _orElse_ refuseUnless
+range-accepted l h =
+    rw (le-leb _ _ (h .n-range), le-leb _ _ (h .m-range), le-leb _ _ (h .k-range), le-leb _ _ (h .s-range), le-leb _ _ (h .t-range), le-leb _ _ (h .c-range))
 
 -- one point where the test holds
 pub limited-points : {t : Bool} → t ≡ true → bit t ≡ 1

@@ -7,3 +7,4 @@ pub mod Names
 pub mod Entered
 pub mod ConeLengths
 pub mod OnePass
+pub mod Tables

@@ -7,7 +7,7 @@ pub mod tally;
 
 ghost use mathlib.Core.Path.{_≡_};
 ghost use Prim.Native.Nat.{_+_, _*_, _≤_, _<_};
-ghost use Rattle.numbering.specs.Blocks.{key, before, numberOf};
+ghost use Rattle.numbering.specs.Blocks.{key, size, blockAt, before, numberOf};
 ghost use Rattle.numbering.specs.Layout.{InRange, layoutColumns, layoutRows, layoutColumn, layoutRow, nEqOf, nIneqOf, nvarOf, nconOf};
 ghost use Rattle.numbering.specs.declared.ColumnName.the-variants.{Pg, Qg, W, Wr, Wi, Pf, Pt, Qf, Qt, CostOf};
 ghost use Rattle.numbering.specs.declared.RowName.the-variants.{Pbal, Qbal, OhmPf, OhmQf, OhmPt, OhmQt, Wub, Wlb, Pgub, Pglb, Qgub, Qglb, Angub, Anglb, Segment, Jabr, Thermal};
@@ -24,7 +24,7 @@ impl SocWrLayout {
         blocks::start_of(&sizes, block) as u32
     }
 
-    fn row_start(self, block: usize) -> u32
+    pub fn row_start(self, block: usize) -> u32
         requires { ⌜ InRange self ⌝ }
         requires { ⌜ block ≤ 17 ⌝ }
         ensures { λ r. ⌜ r ≡ before (layoutRows self) block ⌝ }
@@ -32,6 +32,16 @@ impl SocWrLayout {
     {
         let sizes = blocks::row_sizes(self);
         blocks::start_of(&sizes, block) as u32
+    }
+
+    // How many rows a block has.
+    pub fn row_size(self, block: usize) -> u32
+        requires { ⌜ InRange self ⌝ }
+        requires { ⌜ block < 17 ⌝ }
+        ensures { λ r. ⌜ r ≡ size (blockAt (layoutRows self) block) ⌝ }
+    {
+        let sizes = blocks::row_sizes(self);
+        sizes[block] as u32
     }
 
     // Column i of a block; and row i of a block whose records have one row each.

@@ -1,0 +1,98 @@
+-- The blocks of a network and of a layout one by one, and that they have the same lengths: both come of one table. Assumes nothing.
+use Prim.Native.Nat.{ℕ, _*_, _<_}
+use mathlib.Core.Path.{_≡_, refl, ap, _∙_}
+use mathlib.Core.List.{List}
+use native.Mathlib.Omega.{arith}
+use lib.ListN.{length, getD}
+use Rattle.lists.specs.UpTo.{bit}
+use Rattle.records.specs.AcNetwork.{AcNetwork}
+use Rattle.numbering.specs.Blocks.{alike, unlike, start, size, blockAt, total}
+use Rattle.numbering.specs.Numbering.{columnTable, rowTable, columnBlocks, rowBlocks, costColumns, costRows, jabrRows, thermalRows}
+use Rattle.numbering.specs.Layout.{layoutColumns, layoutRows, sizesOf, startIn, nvarOf, nconOf}
+use Rattle.numbering.specs.Laid.{netOf, Laid}
+use Rattle.numbering.specs.declared.SocWrLayout.{SocWrLayout}
+use Rattle.numbering.proofs.Entered.{Plain, plain-at, start-is, column-blocks, row-blocks}
+use Rattle.numbering.proofs.Laid.{limits-are, curves-are}
+
+module _ {A : Type 0} (G : AcNetwork A) where
+  -- ---- how many blocks there are, and which have one point for each record
+  pub columns-many : length (columnBlocks G) ≡ 10
+  unfolding columnBlocks columnTable
+  columns-many = refl
+
+  pub rows-many : length (rowBlocks G) ≡ 17
+  unfolding rowBlocks rowTable
+  rows-many = refl
+
+  pub columns-plain : Plain (columnBlocks G) 9
+  unfolding columnBlocks columnTable
+  columns-plain = (refl, (refl, (refl, (refl, (refl, (refl, (refl, (refl, (refl, tt)))))))))
+
+  pub rows-plain : Plain (rowBlocks G) 14
+  unfolding rowBlocks rowTable
+  rows-plain = (refl, (refl, (refl, (refl, (refl, (refl, (refl, (refl, (refl, (refl, (refl, (refl, (refl, (refl, tt))))))))))))))
+
+  -- ---- the others
+  pub cost-block : blockAt (columnBlocks G) costColumns ≡ unlike (G .k) 1 (λ g. bit (G .piecewise g))
+  unfolding columnBlocks columnTable
+  cost-block = refl
+
+  pub segment-block : blockAt (rowBlocks G) costRows ≡ unlike (G .k) 1 (G .segments)
+  unfolding rowBlocks rowTable
+  segment-block = refl
+
+  pub jabr-block : blockAt (rowBlocks G) jabrRows ≡ alike (G .m) 4
+  unfolding rowBlocks rowTable
+  jabr-block = refl
+
+  pub thermal-block : blockAt (rowBlocks G) thermalRows ≡ unlike (G .m) 6 (λ e. bit (G .limited e))
+  unfolding rowBlocks rowTable
+  thermal-block = refl
+
+module _ (l : SocWrLayout) where
+  -- ---- the layout's blocks: the lengths of those in which a record has more or fewer points than one, and the end of all
+  pub cost-length : getD (sizesOf (layoutColumns l)) costColumns 0 ≡ l .«cost_columns»
+  unfolding sizesOf layoutColumns columnTable size start
+  cost-length = omega arith
+
+  pub segment-length : getD (sizesOf (layoutRows l)) costRows 0 ≡ l .s
+  unfolding sizesOf layoutRows rowTable size start
+  segment-length = omega arith
+
+  pub jabr-length : getD (sizesOf (layoutRows l)) jabrRows 0 ≡ 4 * l .m
+  unfolding sizesOf layoutRows rowTable size start
+  jabr-length = omega arith
+
+  pub thermal-length : getD (sizesOf (layoutRows l)) thermalRows 0 ≡ 6 * l .t
+  unfolding sizesOf layoutRows rowTable size start
+  thermal-length = omega arith
+
+  pub columns-end : startIn (sizesOf (layoutColumns l)) (length (sizesOf (layoutColumns l))) ≡ nvarOf l
+  unfolding nvarOf total layoutColumns columnTable
+  columns-end = rw (column-blocks l) (start-is (layoutColumns l) 10)
+
+  pub rows-end : startIn (sizesOf (layoutRows l)) (length (sizesOf (layoutRows l))) ≡ nconOf l
+  unfolding nconOf total layoutRows rowTable
+  rows-end = rw (row-blocks l) (start-is (layoutRows l) 17)
+
+  pub jabr-layout : blockAt (layoutRows l) jabrRows ≡ alike (l .m) 4
+  unfolding layoutRows rowTable
+  jabr-layout = refl
+
+-- ---- the same lengths by network and by layout; so the blocks of one point for each record are the same
+module _ (l : SocWrLayout) (b : List ℕ) (h : Laid l b) where
+  column-lengths : sizesOf (columnBlocks (netOf l b)) ≡ sizesOf (layoutColumns l)
+  unfolding sizesOf columnBlocks layoutColumns columnTable size start
+  column-lengths = rw (curves-are l b h)
+
+  row-lengths : sizesOf (rowBlocks (netOf l b)) ≡ sizesOf (layoutRows l)
+  unfolding sizesOf rowBlocks layoutRows rowTable size start
+  row-lengths = rw (h .accepted .counts-add, limits-are l b h)
+
+  pub laid-column-block : (j : ℕ) → j < 9 → blockAt (columnBlocks (netOf l b)) j ≡ alike (getD (sizesOf (layoutColumns l)) j 0) 1
+  laid-column-block j k =
+      plain-at (columnBlocks (netOf l b)) 9 (columns-plain (netOf l b)) j k ∙ ap (λ (ws : List ℕ). alike (getD ws j 0) 1) column-lengths
+
+  pub laid-row-block : (j : ℕ) → j < 14 → blockAt (rowBlocks (netOf l b)) j ≡ alike (getD (sizesOf (layoutRows l)) j 0) 1
+  laid-row-block j k =
+      plain-at (rowBlocks (netOf l b)) 14 (rows-plain (netOf l b)) j k ∙ ap (λ (ws : List ℕ). alike (getD ws j 0) 1) row-lengths
