@@ -9,22 +9,22 @@ use lib.Ieee.{Float, binary64, neg, ne, mul}
 use borrow.Author.Tests.{lt-ltb, le-ltb}
 use Rattle.lists.specs.UpTo.{when, sum, bit, count}
 use Rattle.lists.specs.Entries.{entry}
-use Rattle.lists.proofs.Sums.{sum-mono, sum-next, count-le}
+use Rattle.lists.proofs.Sums.{sum-mono, sum-next}
 use Rattle.records.specs.AcNetwork.{AcNetwork}
 use Rattle.records.specs.Fields.{voltageBoundOf, vmMinOf, vmMaxOf, capabilityOf, pminOf, pmaxOf, qminOf, qmaxOf, angledOf, tanAngminOf, tanAngmaxOf, rateAOf}
 use Rattle.numbering.specs.Numbering.{nvar, ncon, columnNumber, rowNumber}
-use Rattle.numbering.specs.Layout.{layoutColumns, layoutRows, layoutColumn, layoutRow}
-use Rattle.numbering.specs.Blocks.{before}
+use Rattle.numbering.specs.Layout.{layoutColumn, layoutRow}
 use Rattle.numbering.specs.Laid.{netOf, Laid}
 use Rattle.numbering.specs.declared.SocWrLayout.{SocWrLayout}
 use Rattle.numbering.specs.declared.ColumnName.{ColumnName}
 use Rattle.numbering.specs.declared.ColumnName.the-variants.{Pg, Qg, W, Wr, Wi, Pf, Pt, Qf, Qt, CostOf}
 use Rattle.numbering.specs.declared.RowName.{RowName}
 use Rattle.numbering.specs.declared.RowName.the-variants.{Wub, Wlb, Pgub, Pglb, Qgub, Qglb, Angub, Anglb, Segment, Jabr, Thermal}
-use Rattle.rows.specs.Ops.{rounded}
-use Rattle.rows.specs.Rows.{term, terms, b, zero64, constant64, Constant, one, minusOne, half, minusHalf, Cell, written, kept}
+use Rattle.numbering.proofs.Numbers.{HasColumn, HasRow, column-below, row-below, row-number}
+use Rattle.numbering.proofs.Laid.{limits-are, curves-are, laid-column, laid-row, laid-cost, laid-segment, laid-thermal, laid-few}
+use Rattle.rows.specs.Rows.{term, terms, b, zero64, constant64, Constant, one, minusOne, half, minusHalf, kept}
 use Rattle.rows.specs.Program.{thermalFrom, thermalTo}
-use Rattle.rows.proofs.Shape.{endTerms, jabr-first, jabr-last}
+use Rattle.rows.proofs.Shape.{written-when, endTerms, jabr-first, jabr-last}
 use Rattle.records.proofs.Sound.{sound}
 use Rattle.lines.specs.Line.{lineAt, Within, Stands, spot, line, single, ends, coneLine, ConeStands, thermal}
 use Rattle.lines.specs.declared.Cone.{Cone}
@@ -34,57 +34,54 @@ module _ (l : SocWrLayout) (bytes : List ℕ) (h : Laid l bytes) where
   abbrev G : AcNetwork Float
   G = netOf l bytes
 
-  -- a row of one term, which it has where the test holds
-  one-term : (x : RowName) (c : ColumnName) (k : Constant) (on : Bool) (v : Float)
+  -- a row of one term, which it has where the test holds, at a row and a column that are equal to their numbers
+  one-term : (x : RowName) (c : ColumnName) (k : Constant) (on : Bool) (v : Float) {row col : ℕ} → row ≡ rowNumber G x → col ≡ columnNumber G c
       → ((r : ℕ) (f : Float → Float) → map (λ t. entry r (columnNumber G (t .col)) (f (t .coef))) (terms G x) ≡ map (λ t. entry r (columnNumber G (t .col)) (f (t .coef))) (when on (term c (constant64 k) ∷ [])))
-      → v ≡ b G x → rowNumber G x < ncon G → columnNumber G c < nvar G
-      → Stands G x (single (rowNumber G x) v on (columnNumber G c) (constant64 k))
+      → v ≡ b G x → HasRow G x → HasColumn G c
+      → Stands G x (single row v on col (constant64 k))
   unfolding lineAt
-  one-term x c k on v e p hr hc =
-      record {
+  one-term x c k on v hr hc e p dr dc =
+      rw (hr, hc)
+      (record {
         number = refl;
         rhs = p;
         entries = λ r f. e r f ∙ go on r f;
-        within = record { row = hr; first = hc; second = hc };
-      }
+        within = record { row = row-below G x dr; first = column-below G c dc; second = column-below G c dc };
+      })
     where
       go : (d : Bool) (r : ℕ) (f : Float → Float) → map (λ t. entry r (columnNumber G (t .col)) (f (t .coef))) (when d (term c (constant64 k) ∷ [])) ≡ when d (entry r (columnNumber G c) (f (constant64 k)) ∷ [])
       go true r f = refl
       go false r f = refl
 
-  written-when : (d : Bool) (xs : List (Cell Float)) → written (rounded .one) (when d xs) ≡ when d (written (rounded .one) xs)
-  written-when true xs = refl
-  written-when false xs = refl
-
   pub wub-stands : (i : ℕ) → i < l .n → Stands G (Wub i)
       (single (layoutRow l (Wub i)) (cond (voltageBoundOf bytes i) (mul binary64 (vmMaxOf bytes i) (vmMaxOf bytes i)) (constant64 one)) (voltageBoundOf bytes i) (layoutColumn l (W i)) (constant64 one))
   unfolding terms b
-  wub-stands i d = one-term (Wub i) (W i) one (voltageBoundOf bytes i) _ (λ r f. rw (written-when (voltageBoundOf bytes i))) refl (omega arith) (omega arith)
+  wub-stands i d = one-term (Wub i) (W i) one (voltageBoundOf bytes i) _ (laid-row l bytes h (Wub i) refl) (laid-column l bytes h (W i) refl) (λ r f. rw written-when) refl d d
 
   pub wlb-stands : (i : ℕ) → i < l .n → Stands G (Wlb i)
       (single (layoutRow l (Wlb i)) (cond (voltageBoundOf bytes i) (mul binary64 (neg (vmMinOf bytes i)) (vmMinOf bytes i)) (constant64 one)) (voltageBoundOf bytes i) (layoutColumn l (W i)) (constant64 minusOne))
   unfolding terms b
-  wlb-stands i d = one-term (Wlb i) (W i) minusOne (voltageBoundOf bytes i) _ (λ r f. rw (written-when (voltageBoundOf bytes i))) refl (omega arith) (omega arith)
+  wlb-stands i d = one-term (Wlb i) (W i) minusOne (voltageBoundOf bytes i) _ (laid-row l bytes h (Wlb i) refl) (laid-column l bytes h (W i) refl) (λ r f. rw written-when) refl d d
 
   pub pgub-stands : (g : ℕ) → g < l .k → Stands G (Pgub g)
       (single (layoutRow l (Pgub g)) (cond (capabilityOf bytes (l .n + l .m + g)) (pmaxOf bytes (l .n + l .m + g)) (constant64 one)) (capabilityOf bytes (l .n + l .m + g)) (layoutColumn l (Pg g)) (constant64 one))
   unfolding terms b
-  pgub-stands g d = one-term (Pgub g) (Pg g) one (capabilityOf bytes (l .n + l .m + g)) _ (λ r f. rw (written-when (capabilityOf bytes (l .n + l .m + g)))) refl (omega arith) (omega arith)
+  pgub-stands g d = one-term (Pgub g) (Pg g) one (capabilityOf bytes (l .n + l .m + g)) _ (laid-row l bytes h (Pgub g) refl) (laid-column l bytes h (Pg g) refl) (λ r f. rw written-when) refl d d
 
   pub pglb-stands : (g : ℕ) → g < l .k → Stands G (Pglb g)
       (single (layoutRow l (Pglb g)) (cond (capabilityOf bytes (l .n + l .m + g)) (neg (pminOf bytes (l .n + l .m + g))) (constant64 one)) (capabilityOf bytes (l .n + l .m + g)) (layoutColumn l (Pg g)) (constant64 minusOne))
   unfolding terms b
-  pglb-stands g d = one-term (Pglb g) (Pg g) minusOne (capabilityOf bytes (l .n + l .m + g)) _ (λ r f. rw (written-when (capabilityOf bytes (l .n + l .m + g)))) refl (omega arith) (omega arith)
+  pglb-stands g d = one-term (Pglb g) (Pg g) minusOne (capabilityOf bytes (l .n + l .m + g)) _ (laid-row l bytes h (Pglb g) refl) (laid-column l bytes h (Pg g) refl) (λ r f. rw written-when) refl d d
 
   pub qgub-stands : (g : ℕ) → g < l .k → Stands G (Qgub g)
       (single (layoutRow l (Qgub g)) (cond (capabilityOf bytes (l .n + l .m + g)) (qmaxOf bytes (l .n + l .m + g)) (constant64 one)) (capabilityOf bytes (l .n + l .m + g)) (layoutColumn l (Qg g)) (constant64 one))
   unfolding terms b
-  qgub-stands g d = one-term (Qgub g) (Qg g) one (capabilityOf bytes (l .n + l .m + g)) _ (λ r f. rw (written-when (capabilityOf bytes (l .n + l .m + g)))) refl (omega arith) (omega arith)
+  qgub-stands g d = one-term (Qgub g) (Qg g) one (capabilityOf bytes (l .n + l .m + g)) _ (laid-row l bytes h (Qgub g) refl) (laid-column l bytes h (Qg g) refl) (λ r f. rw written-when) refl d d
 
   pub qglb-stands : (g : ℕ) → g < l .k → Stands G (Qglb g)
       (single (layoutRow l (Qglb g)) (cond (capabilityOf bytes (l .n + l .m + g)) (neg (qminOf bytes (l .n + l .m + g))) (constant64 one)) (capabilityOf bytes (l .n + l .m + g)) (layoutColumn l (Qg g)) (constant64 minusOne))
   unfolding terms b
-  qglb-stands g d = one-term (Qglb g) (Qg g) minusOne (capabilityOf bytes (l .n + l .m + g)) _ (λ r f. rw (written-when (capabilityOf bytes (l .n + l .m + g)))) refl (omega arith) (omega arith)
+  qglb-stands g d = one-term (Qglb g) (Qg g) minusOne (capabilityOf bytes (l .n + l .m + g)) _ (laid-row l bytes h (Qglb g) refl) (laid-column l bytes h (Qg g) refl) (λ r f. rw written-when) refl d d
 
   -- a term that is dropped where its coefficient equals zero, and one of a constant
   kept-and : (c d : ColumnName) (v : Float) (k : Constant) (on : Bool) (r : ℕ) (f : Float → Float)
@@ -99,116 +96,105 @@ module _ (l : SocWrLayout) (bytes : List ℕ) (h : Laid l bytes) where
       go true false = refl
       go false q = refl
 
+  -- a row of such two terms, which it has where the test holds
+  two-terms : (x : RowName) (c d : ColumnName) (v : Float) (k : Constant) (on : Bool) (w : Float) {row col next : ℕ}
+      → row ≡ rowNumber G x → col ≡ columnNumber G c → next ≡ columnNumber G d
+      → ((r : ℕ) (f : Float → Float) → map (λ t. entry r (columnNumber G (t .col)) (f (t .coef))) (terms G x) ≡ map (λ t. entry r (columnNumber G (t .col)) (f (t .coef))) (when on (kept c v ++ (term d (constant64 k) ∷ []))))
+      → w ≡ b G x → HasRow G x → HasColumn G c → HasColumn G d
+      → Stands G x (line row w (spot (on && ne v zero64) col v) (spot on next (constant64 k)))
+  unfolding lineAt
+  two-terms x c d v k on w hr hc hd e p dr dc dd =
+      rw (hr, hc, hd)
+      (record {
+        number = refl;
+        rhs = p;
+        entries = λ r f. e r f ∙ kept-and c d v k on r f;
+        within = record { row = row-below G x dr; first = column-below G c dc; second = column-below G d dd };
+      })
+
   pub angub-stands : (e : ℕ) → e < l .m → Stands G (Angub e)
       (line (layoutRow l (Angub e)) (cond (angledOf bytes (l .n + e)) zero64 (constant64 one))
       (spot (angledOf bytes (l .n + e) && ne (neg (tanAngmaxOf bytes (l .n + e))) zero64) (layoutColumn l (Wr e)) (neg (tanAngmaxOf bytes (l .n + e)))) (spot (angledOf bytes (l .n + e)) (layoutColumn l (Wi e)) (constant64 one)))
-  unfolding terms b lineAt
+  unfolding terms b
   angub-stands e d =
-      record {
-        number = refl;
-        rhs = refl;
-        entries = λ r f. rw (written-when (angledOf bytes (l .n + e))) (kept-and (Wr e) (Wi e) (neg (tanAngmaxOf bytes (l .n + e))) one (angledOf bytes (l .n + e)) r f);
-        within = record { row = omega arith; first = omega arith; second = omega arith };
-      }
+      two-terms (Angub e) (Wr e) (Wi e) _ one (angledOf bytes (l .n + e)) _ (laid-row l bytes h (Angub e) refl) (laid-column l bytes h (Wr e) refl) (laid-column l bytes h (Wi e) refl)
+      (λ r f. rw written-when) refl d d d
 
   pub anglb-stands : (e : ℕ) → e < l .m → Stands G (Anglb e)
       (line (layoutRow l (Anglb e)) (cond (angledOf bytes (l .n + e)) zero64 (constant64 one))
       (spot (angledOf bytes (l .n + e) && ne (tanAngminOf bytes (l .n + e)) zero64) (layoutColumn l (Wr e)) (tanAngminOf bytes (l .n + e))) (spot (angledOf bytes (l .n + e)) (layoutColumn l (Wi e)) (constant64 minusOne)))
-  unfolding terms b lineAt
+  unfolding terms b
   anglb-stands e d =
-      record {
-        number = refl;
-        rhs = refl;
-        entries = λ r f. rw (written-when (angledOf bytes (l .n + e))) (kept-and (Wr e) (Wi e) (tanAngminOf bytes (l .n + e)) minusOne (angledOf bytes (l .n + e)) r f);
-        within = record { row = omega arith; first = omega arith; second = omega arith };
-      }
+      two-terms (Anglb e) (Wr e) (Wi e) _ minusOne (angledOf bytes (l .n + e)) _ (laid-row l bytes h (Anglb e) refl) (laid-column l bytes h (Wr e) refl) (laid-column l bytes h (Wi e) refl)
+      (λ r f. rw written-when) refl d d d
 
   -- of the records before k, those of g with what follows are not more than all
   room : (g k : ℕ) (a : ℕ → ℕ) → g < k → sum g a + a g ≤ sum k a
   room g k a d = omega (arith, sum-next g a, sum-mono (g + 1) k a (omega arith))
 
-  -- the numbers that the code works out
-  pub segments-in : (g t segments curves : ℕ) → g < l .k → t < G .segments g → segments ≡ sum g (G .segments) → curves ≡ count g (G .piecewise)
-      → (segments + t < l .s) × (curves ≤ l .k)
-  segments-in g t segments curves d q hs hc =
-      (omega (arith, room g (l .k) (G .segments) d, h .accepted .counts-add), omega (arith, count-le g (G .piecewise)))
+  -- the segments, cost columns and limited branches before a record are not more than the layout has
+  pub segments-in : (g t segments : ℕ) → g < l .k → t < G .segments g → segments ≡ sum g (G .segments) → segments + t < l .s
+  segments-in g t segments d q hs = omega (arith, room g (l .k) (G .segments) d, h .accepted .counts-add)
 
-  pub segment-row : (g t segments base : ℕ) → base ≡ before (layoutRows l) 14 → segments ≡ sum g (G .segments) → base + (segments + t) ≡ rowNumber G (Segment g t)
-  segment-row g t segments base hb hs = omega arith
+  pub curves-in : (g curves : ℕ) → g < l .k → curves ≡ count g (G .piecewise) → curves ≤ l .«cost_columns»
+  curves-in g curves d hc = omega (arith, room g (l .k) (λ j. bit (G .piecewise j)) d, curves-are l bytes h)
 
-  pub cost-column : (g curves base : ℕ) → base ≡ before (layoutColumns l) 9 → curves ≡ count g (G .piecewise) → base + curves ≡ columnNumber G (CostOf g)
-  cost-column g curves base hb hc = omega arith
+  pub limits-in : (e limits : ℕ) → e < l .m → limits ≡ count e (G .limited) → limits ≤ l .t
+  limits-in e limits d hl = omega (arith, room e (l .m) (λ j. bit (G .limited j)) d, limits-are l bytes h)
 
-  pub jabr-row : (e row : ℕ) → e < l .m → row ≡ layoutRow l (Jabr e 0) → (row ≡ rowNumber G (Jabr e 0)) × (row + 3 < 2 ^ 32)
-  jabr-row e row d hr = let q = h .range in (omega (arith, h .accepted .counts-add), omega arith)
-
-  pub thermal-row : (e limits base : ℕ) → e < l .m → base ≡ before (layoutRows l) 16 → limits ≡ count e (G .limited)
-      → (limits ≤ 8192) × (base + 6 * limits + 5 < 2 ^ 32) × (base + 6 * limits ≡ rowNumber G (Thermal e 0))
-  thermal-row e limits base d hb hl =
-      let q = h .range in
-      let w : limits ≤ l .m = omega (arith, count-le e (G .limited)) in
-      (omega arith, omega arith, omega (arith, h .accepted .counts-add))
-
-  pub segment-stands : (g t row col : ℕ) → g < l .k → t < G .segments g → row ≡ rowNumber G (Segment g t) → col ≡ columnNumber G (CostOf g)
+  pub segment-stands : (g t row col : ℕ) → g < l .k → t < G .segments g
+      → row ≡ layoutRow l (Segment (sum g (G .segments) + t) 0) → col ≡ layoutColumn l (CostOf (count g (G .piecewise)))
       → Stands G (Segment g t)
       (line row (neg (G .intercept g t)) (spot (ne (G .slope g t) zero64) (layoutColumn l (Pg g)) (G .slope g t)) (spot true col (constant64 minusOne)))
-  unfolding terms b lineAt
+  unfolding terms b
   segment-stands g t row col d q hr hc =
-      let one-more : bit (G .piecewise g) ≡ 1 = ap bit (sound (l .n) (l .m) (l .k) (l .s) bytes (h .accepted) .pieces g t d q) in
-      record {
-        number = hr;
-        rhs = refl;
-        entries = λ r f. rw hc (kept-and (Pg g) (CostOf g) (G .slope g t) minusOne true r f);
-        within = record {
-          row = omega (arith, hr, room g (l .k) (G .segments) d);
-          first = omega arith;
-          second = omega (arith, hc, one-more, room g (l .k) (λ j. bit (G .piecewise j)) d);
-        };
-      }
-      -- ---- cones
+      two-terms (Segment g t) (Pg g) (CostOf g) (G .slope g t) minusOne true _ (hr ∙ laid-segment l bytes h g t) (laid-column l bytes h (Pg g) refl) (hc ∙ laid-cost l bytes h g)
+      (λ r f. refl) refl (d, q) d (d, sound (l .n) (l .m) (l .k) (l .s) bytes (h .accepted) .pieces g t d q)
+
+  -- ---- cones
 
   abbrev ordered : Bool → ℕ → ℕ → ℕ → Float → Line
-  ordered p f u r v =
-      cond p (line r zero64 (spot true (layoutColumn l (W f)) (constant64 minusHalf)) (spot true (layoutColumn l (W u)) v))
-      (line r zero64 (spot true (layoutColumn l (W u)) v) (spot true (layoutColumn l (W f)) (constant64 minusHalf)))
+  ordered p f u r v = cond p (line r zero64 (spot true f (constant64 minusHalf)) (spot true u v)) (line r zero64 (spot true u v) (spot true f (constant64 minusHalf)))
 
-  ends-stand : (x : RowName) (e : ℕ) (k : Constant) (row : ℕ) → e < l .m → row ≡ rowNumber G x → terms G x ≡ endTerms G e minusHalf k → zero64 ≡ b G x → row < ncon G
+  ends-stand : (x : RowName) (e : ℕ) (k : Constant) {row : ℕ} → e < l .m → row ≡ rowNumber G x → terms G x ≡ endTerms G e minusHalf k → zero64 ≡ b G x → HasRow G x
       → Stands G x (ends l (G .from e) (G .to e) row (constant64 k))
   unfolding endTerms ends lineAt
-  ends-stand x e k row d hr ht hb hn =
-      record {
-        number = go-number (ltb (G .from e) (G .to e)) ∙ hr;
+  ends-stand x e k d hr ht hb dr =
+      rw (hr, laid-column l bytes h (W (G .from e)) refl, laid-column l bytes h (W (G .to e)) refl)
+      (record {
+        number = go-number (ltb (G .from e) (G .to e));
         rhs = go-rhs (ltb (G .from e) (G .to e)) ∙ hb;
         entries = λ r f. ap (map (λ t. entry r (columnNumber G (t .col)) (f (t .coef)))) ht ∙ go-entries r f (ltb (G .from e) (G .to e));
         within = go-within (ltb (G .from e) (G .to e));
-      }
+      })
     where
-      go-number : (p : Bool) → ordered p (G .from e) (G .to e) row (constant64 k) .row ≡ row
+      L : Bool → Line
+      L p = ordered p (columnNumber G (W (G .from e))) (columnNumber G (W (G .to e))) (rowNumber G x) (constant64 k)
+
+      go-number : (p : Bool) → L p .row ≡ rowNumber G x
       go-number true = refl
       go-number false = refl
 
-      go-rhs : (p : Bool) → ordered p (G .from e) (G .to e) row (constant64 k) .rhs ≡ zero64
+      go-rhs : (p : Bool) → L p .rhs ≡ zero64
       go-rhs true = refl
       go-rhs false = refl
 
       go-entries : (r : ℕ) (f : Float → Float) (p : Bool)
           → map (λ t. entry r (columnNumber G (t .col)) (f (t .coef)))
           (cond p (term (W (G .from e)) (constant64 minusHalf) ∷ term (W (G .to e)) (constant64 k) ∷ []) (term (W (G .to e)) (constant64 k) ∷ term (W (G .from e)) (constant64 minusHalf) ∷ []))
-          ≡ lineAt r f (ordered p (G .from e) (G .to e) row (constant64 k))
+          ≡ lineAt r f (L p)
       go-entries r f true = refl
       go-entries r f false = refl
 
-      go-within : (p : Bool) → Within (nvar G) (ncon G) (ordered p (G .from e) (G .to e) row (constant64 k))
-      go-within true = record { row = hn; first = omega (arith, h .accepted .from-below e d); second = omega (arith, h .accepted .to-below e d) }
-      go-within false = record { row = hn; first = omega (arith, h .accepted .to-below e d); second = omega (arith, h .accepted .from-below e d) }
+      from-in : columnNumber G (W (G .from e)) < nvar G
+      from-in = column-below G (W (G .from e)) (h .accepted .from-below e d)
 
-  -- a row of one term at a row and a column that are equal to their numbers
-  one-there : (x : RowName) (c : ColumnName) (k : Constant) (on : Bool) (v : Float) (row : ℕ)
-      → row ≡ rowNumber G x
-      → ((r : ℕ) (f : Float → Float) → map (λ t. entry r (columnNumber G (t .col)) (f (t .coef))) (terms G x) ≡ map (λ t. entry r (columnNumber G (t .col)) (f (t .coef))) (when on (term c (constant64 k) ∷ [])))
-      → v ≡ b G x → row < ncon G → columnNumber G c < nvar G
-      → Stands G x (single row v on (columnNumber G c) (constant64 k))
-  one-there x c k on v row hr e p hn hc = rw hr (one-term x c k on v e p (omega (arith, hr)) hc)
+      to-in : columnNumber G (W (G .to e)) < nvar G
+      to-in = column-below G (W (G .to e)) (h .accepted .to-below e d)
+
+      go-within : (p : Bool) → Within (nvar G) (ncon G) (L p)
+      go-within true = record { row = row-below G x dr; first = from-in; second = to-in }
+      go-within false = record { row = row-below G x dr; first = to-in; second = from-in }
 
   four : (P : ℕ → Type 0) → P 0 → P 1 → P 2 → P 3 → (q : ℕ) → q < 4 → P q
   four P x y z w zero p = x
@@ -217,16 +203,28 @@ module _ (l : SocWrLayout) (bytes : List ℕ) (h : Laid l bytes) where
   four P x y z w (suc (suc (suc zero))) p = w
   four P x y z w (suc (suc (suc (suc q)))) p = absurd (omega arith)
 
-  pub jabr-stands : (e row : ℕ) → e < l .m → row ≡ rowNumber G (Jabr e 0) → (c : Cone)
+  -- the rows of a cone follow each other
+  jabr-next : (e q : ℕ) → rowNumber G (Jabr e 0) + q ≡ rowNumber G (Jabr e q)
+  jabr-next e q = omega (arith, row-number G (Jabr e 0), row-number G (Jabr e q))
+
+  thermal-next : (e p q r : ℕ) → p + q ≡ r → rowNumber G (Thermal e p) + q ≡ rowNumber G (Thermal e r)
+  thermal-next e p q r s = omega (arith, row-number G (Thermal e p), row-number G (Thermal e r))
+
+  pub jabr-fits : (e row : ℕ) → e < l .m → row ≡ layoutRow l (Jabr e 0) → row + 3 < 2 ^ 32
+  jabr-fits e row d hr = omega (arith, hr ∙ laid-row l bytes h (Jabr e 0) refl, jabr-next e 3, row-below G (Jabr e 3) (d, omega arith), laid-few l bytes h)
+
+  pub jabr-stands : (e row : ℕ) → e < l .m → row ≡ layoutRow l (Jabr e 0) → (c : Cone)
       → c .a ≡ ends l (G .from e) (G .to e) row (constant64 minusHalf) → c .b ≡ single (row + 1) zero64 true (layoutColumn l (Wr e)) (constant64 minusOne)
       → c .c ≡ single (row + 2) zero64 true (layoutColumn l (Wi e)) (constant64 minusOne) → c .d ≡ ends l (G .from e) (G .to e) (row + 3) (constant64 half)
       → ConeStands G 4 (Jabr e) c
   unfolding terms b
-  jabr-stands e row d hr c ea eb ec ed =
-      let A : Stands G (Jabr e 0) (c .a) = rw ea (ends-stand (Jabr e 0) e minusHalf row d hr (jabr-first G e) refl (omega (arith, hr))) in
-      let B : Stands G (Jabr e 1) (c .b) = rw eb (one-there (Jabr e 1) (Wr e) minusOne true zero64 (row + 1) (omega (arith, hr)) (λ r f. refl) refl (omega (arith, hr)) (omega arith)) in
-      let C : Stands G (Jabr e 2) (c .c) = rw ec (one-there (Jabr e 2) (Wi e) minusOne true zero64 (row + 2) (omega (arith, hr)) (λ r f. refl) refl (omega (arith, hr)) (omega arith)) in
-      let D : Stands G (Jabr e 3) (c .d) = rw ed (ends-stand (Jabr e 3) e half (row + 3) d (omega (arith, hr)) (jabr-last G e) refl (omega (arith, hr))) in
+  jabr-stands e row d hl c ea eb ec ed =
+      let hr : row ≡ rowNumber G (Jabr e 0) = hl ∙ laid-row l bytes h (Jabr e 0) refl in
+      let at : (q : ℕ) → row + q ≡ rowNumber G (Jabr e q) = λ q. rw hr (jabr-next e q) in
+      let A : Stands G (Jabr e 0) (c .a) = rw ea (ends-stand (Jabr e 0) e minusHalf d hr (jabr-first G e) refl (d, omega arith)) in
+      let B : Stands G (Jabr e 1) (c .b) = rw eb (one-term (Jabr e 1) (Wr e) minusOne true zero64 (at 1) (laid-column l bytes h (Wr e) refl) (λ r f. refl) refl (d, omega arith) d) in
+      let C : Stands G (Jabr e 2) (c .c) = rw ec (one-term (Jabr e 2) (Wi e) minusOne true zero64 (at 2) (laid-column l bytes h (Wi e) refl) (λ r f. refl) refl (d, omega arith) d) in
+      let D : Stands G (Jabr e 3) (c .d) = rw ed (ends-stand (Jabr e 3) e half d (at 3) (jabr-last G e) refl (d, omega arith)) in
       record { lines = four (λ q. Stands G (Jabr e q) (coneLine c q)) A B C D; within = every (A .within) (B .within) (C .within) (D .within) }
     where
       every : Within (nvar G) (ncon G) (c .a) → Within (nvar G) (ncon G) (c .b) → Within (nvar G) (ncon G) (c .c) → Within (nvar G) (ncon G) (c .d) → (q : ℕ) → Within (nvar G) (ncon G) (coneLine c q)
@@ -236,25 +234,27 @@ module _ (l : SocWrLayout) (bytes : List ℕ) (h : Laid l bytes) where
       every x y z w (suc (suc (suc q))) = w
 
   -- no term
-  none-there : (x : RowName) (c : ColumnName) (w v : Float) (row : ℕ) → row ≡ rowNumber G x → terms G x ≡ [] → v ≡ b G x → row < ncon G → columnNumber G c < nvar G
-      → Stands G x (single row v false (columnNumber G c) w)
+  none-there : (x : RowName) (c : ColumnName) (w v : Float) {row col : ℕ} → row ≡ rowNumber G x → col ≡ columnNumber G c → terms G x ≡ [] → v ≡ b G x → HasRow G x → HasColumn G c
+      → Stands G x (single row v false col w)
   unfolding lineAt
-  none-there x c w v row hr e p hn hc = record { number = hr; rhs = p; entries = λ r f. rw e; within = record { row = hn; first = hc; second = hc } }
+  none-there x c w v hr hc e p dr dc =
+      rw (hr, hc)
+      (record { number = refl; rhs = p; entries = λ r f. rw e; within = record { row = row-below G x dr; first = column-below G c dc; second = column-below G c dc } })
 
-  -- the rows x of a thermal cone from row on
-  thermal-cone : (x : ℕ → RowName) (p q : ColumnName) (rate : Float) (row : ℕ)
-      → row ≡ rowNumber G (x 0) → row + 1 ≡ rowNumber G (x 1) → row + 2 ≡ rowNumber G (x 2) → row + 2 < ncon G
+  -- the rows x of a thermal cone from row on, with the flows p and q at the columns i and j
+  thermal-cone : (x : ℕ → RowName) (p q : ColumnName) (rate : Float) (row i j : ℕ)
+      → ((u : ℕ) → row + u ≡ rowNumber G (x u)) → i ≡ columnNumber G p → j ≡ columnNumber G q → ((u : ℕ) → u < 3 → HasRow G (x u)) → HasColumn G p → HasColumn G q
       → terms G (x 0) ≡ [] → terms G (x 1) ≡ term p (constant64 minusOne) ∷ [] → terms G (x 2) ≡ term q (constant64 minusOne) ∷ []
-      → rate ≡ b G (x 0) → zero64 ≡ b G (x 1) → zero64 ≡ b G (x 2) → columnNumber G p < nvar G → columnNumber G q < nvar G
-      → ConeStands G 3 x (thermal row rate (columnNumber G p) (columnNumber G q))
-  thermal-cone x p q rate row h0 h1 h2 hn t0 t1 t2 b0 b1 b2 hp hq =
-      let A = none-there (x 0) p zero64 rate row h0 t0 b0 (omega arith) hp in
-      let B = one-there (x 1) p minusOne true zero64 (row + 1) h1 (λ r f. rw t1) b1 (omega arith) hp in
-      let C = one-there (x 2) q minusOne true zero64 (row + 2) h2 (λ r f. rw t2) b2 (omega arith) hq in
+      → rate ≡ b G (x 0) → zero64 ≡ b G (x 1) → zero64 ≡ b G (x 2)
+      → ConeStands G 3 x (thermal row rate i j)
+  thermal-cone x p q rate row i j at hi hj dx dp dq t0 t1 t2 b0 b1 b2 =
+      let A : Stands G (x 0) (T .a) = none-there (x 0) p zero64 rate (omega (arith, at 0)) hi t0 b0 (dx 0 (omega arith)) dp in
+      let B : Stands G (x 1) (T .b) = one-term (x 1) p minusOne true zero64 (at 1) hi (λ r f. rw t1) b1 (dx 1 (omega arith)) dp in
+      let C : Stands G (x 2) (T .c) = one-term (x 2) q minusOne true zero64 (at 2) hj (λ r f. rw t2) b2 (dx 2 (omega arith)) dq in
       record { lines = three A B C; within = every (A .within) (B .within) (C .within) }
     where
       T : Cone
-      T = thermal row rate (columnNumber G p) (columnNumber G q)
+      T = thermal row rate i j
 
       three : Stands G (x 0) (T .a) → Stands G (x 1) (T .b) → Stands G (x 2) (T .c) → (j : ℕ) → j < 3 → Stands G (x j) (coneLine T j)
       three A B C zero d = A
@@ -268,23 +268,27 @@ module _ (l : SocWrLayout) (bytes : List ℕ) (h : Laid l bytes) where
       every A B C (suc (suc zero)) = C
       every A B C (suc (suc (suc j))) = C
 
-  -- the rows of a limited branch are below ncon
-  limited-in : (e q : ℕ) → e < l .m → G .limited e ≡ true → q < 6 → rowNumber G (Thermal e q) < ncon G
-  limited-in e q d on k = omega (arith, ap bit on, room e (l .m) (λ j. bit (G .limited j)) d)
+  -- the layout's row of a limited branch, by the count of those before it, is the network's
+  thermal-at : (e q row limits : ℕ) → row ≡ layoutRow l (Thermal limits q) → limits ≡ count e (G .limited) → row ≡ rowNumber G (Thermal e q)
+  thermal-at e q row limits hr hl = hr ∙ rw hl (laid-thermal l bytes h e q)
 
-  pub from-stands : (e row : ℕ) → e < l .m → G .limited e ≡ true → row ≡ rowNumber G (Thermal e 0)
+  pub thermal-fits : (e q row limits : ℕ) → e < l .m → G .limited e ≡ true → q + 2 < 6 → row ≡ layoutRow l (Thermal limits q) → limits ≡ count e (G .limited) → row + 2 < 2 ^ 32
+  thermal-fits e q row limits d on k hr hl =
+      omega (arith, thermal-at e q row limits hr hl, thermal-next e q 2 (q + 2) refl, row-below G (Thermal e (q + 2)) (d, on, k), laid-few l bytes h)
+
+  pub from-stands : (e row limits : ℕ) → e < l .m → G .limited e ≡ true → row ≡ layoutRow l (Thermal limits 0) → limits ≡ count e (G .limited)
       → ConeStands G 3 (thermalFrom e) (thermal row (rateAOf bytes (l .n + e)) (layoutColumn l (Pf e)) (layoutColumn l (Qf e)))
   unfolding terms b
-  from-stands e row d on hr =
-      thermal-cone (thermalFrom e) (Pf e) (Qf e) _ row hr (omega (arith, hr)) (omega (arith, hr)) (omega (arith, hr, limited-in e 2 d on (omega arith)))
-      refl refl refl refl refl refl (omega arith) (omega arith)
+  from-stands e row limits d on hr hl =
+      thermal-cone (thermalFrom e) (Pf e) (Qf e) _ row _ _ (λ u. rw (thermal-at e 0 row limits hr hl) (thermal-next e 0 u u (omega arith))) (laid-column l bytes h (Pf e) refl) (laid-column l bytes h (Qf e) refl)
+      (λ u k. (d, on, omega arith)) d d refl refl refl refl refl refl
 
-  pub to-stands : (e row : ℕ) → e < l .m → G .limited e ≡ true → row ≡ rowNumber G (Thermal e 3)
+  pub to-stands : (e row limits : ℕ) → e < l .m → G .limited e ≡ true → row ≡ layoutRow l (Thermal limits 3) → limits ≡ count e (G .limited)
       → ConeStands G 3 (thermalTo e) (thermal row (rateAOf bytes (l .n + e)) (layoutColumn l (Pt e)) (layoutColumn l (Qt e)))
   unfolding terms b
-  to-stands e row d on hr =
-      thermal-cone (thermalTo e) (Pt e) (Qt e) _ row hr (omega (arith, hr)) (omega (arith, hr)) (omega (arith, hr, limited-in e 5 d on (omega arith)))
-      refl refl refl refl refl refl (omega arith) (omega arith)
+  to-stands e row limits d on hr hl =
+      thermal-cone (thermalTo e) (Pt e) (Qt e) _ row _ _ (λ u. rw (thermal-at e 3 row limits hr hl) (thermal-next e 3 u (3 + u) refl)) (laid-column l bytes h (Pt e) refl) (laid-column l bytes h (Qt e) refl)
+      (λ u k. (d, on, omega arith)) d d refl refl refl refl refl refl
 
 -- what a line's and a cone's tests pick
 pub ends-up : (l : SocWrLayout) (f t r : ℕ) (v : Float) → f < t

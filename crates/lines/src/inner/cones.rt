@@ -11,7 +11,7 @@ use records::inner::br_to;
 use records::inner::rate_a;
 ghost use mathlib.Core.Path.{_≡_};
 ghost use mathlib.Core.Bool.{true};
-ghost use Prim.Native.Nat.{_+_, _*_, _<_, _^_};
+ghost use Prim.Native.Nat.{_+_, _<_, _^_};
 ghost use Rattle.lists.specs.UpTo.{count};
 ghost use Rattle.numbering.specs.declared.RowName.the-variants.{Jabr};
 ghost use Rattle.numbering.specs.Laid.{netOf, Laid};
@@ -81,7 +81,7 @@ pub fn thermal_from(l: SocWrLayout, bytes: &[u8], e: usize, limits: usize) -> Co
     requires { ⌜ (e < l .m) × (netOf l (now bytes) .limited e ≡ true) × (limits ≡ count e (netOf l (now bytes) .limited)) ⌝ }
     ensures { λ r. ⌜ ConeStands (netOf l (now (bytes .entry))) 3 (thermalFrom e) r ⌝ }
 {
-    let row = l.thermal_row(0, 0) + (6 * limits) as u32;
+    let row = l.thermal_row(limits, 0);
     thermal(row, rate_a(bytes, l.n + e), l.pf_column(e), l.qf_column(e))
 }
 
@@ -90,6 +90,6 @@ pub fn thermal_to(l: SocWrLayout, bytes: &[u8], e: usize, limits: usize) -> Cone
     requires { ⌜ (e < l .m) × (netOf l (now bytes) .limited e ≡ true) × (limits ≡ count e (netOf l (now bytes) .limited)) ⌝ }
     ensures { λ r. ⌜ ConeStands (netOf l (now (bytes .entry))) 3 (thermalTo e) r ⌝ }
 {
-    let row = l.thermal_row(0, 0) + (6 * limits + 3) as u32;
+    let row = l.thermal_row(limits, 3);
     thermal(row, rate_a(bytes, l.n + e), l.pt_column(e), l.qt_column(e))
 }

@@ -82,8 +82,8 @@ pub fn segment(
     ensures { λ r. ⌜ Stands (netOf l (now (bytes .entry))) (Segment g t) r ⌝ }
 {
     let r = l.n + l.m + l.k + segments + t;
-    let row = l.segment_row(0) + (segments + t) as u32;
-    let col = l.cost_column(0) + curves as u32;
+    let row = l.segment_row(segments + t);
+    let col = l.cost_column(curves);
     let v = slope(bytes, r);
     let rhs = -intercept(bytes, r);
     line(

@@ -1,17 +1,18 @@
 -- `lines::inner::angles::angub` meets its contract. Assumes nothing.
 use Rattle.lines.proofs.Lines.{angub-stands}
 use borrow.Author.Needs.{needs}
+use native.Mathlib.Omega.{arith}
 use Rattle.lines.proofs.inner.angles.angub.Statement.{statement}
 use Rattle.lines.proofs.inner.angles.angub.Tie as tie
 
 angub-row-requires : tie.Need-angub-row-requires
-angub-row-requires c κs = (c .before .before .before .before .before .pre .0 .range, c .before .before .before .before .before .pre .1)
+angub-row-requires c κs = (c .before .before .before .before .before .pre .0 .range, omega arith)
 
 wr-column-requires : tie.Need-wr-column-requires
-wr-column-requires c κs = (c .before .before .before .before .before .before .pre .0 .range, c .before .before .before .before .before .before .pre .1)
+wr-column-requires c κs = (c .before .before .before .before .before .before .pre .0 .range, omega arith)
 
 wi-column-requires : tie.Need-wi-column-requires
-wi-column-requires c κs = (c .before .before .before .before .before .before .before .before .pre .0 .range, c .before .before .before .before .before .before .before .before .pre .1)
+wi-column-requires c κs = (c .before .before .before .before .before .before .before .before .pre .0 .range, omega arith)
 
 returns : tie.Need-returns
 returns c = rw (c .line .ensures, c .before .before .before .spot .ensures, c .before .spot2 .ensures, c .before .before .before .before .before .angub-row .ensures, c .before .before .before .before .wr-column .ensures, c .before .before .wi-column .ensures, c .before .before .before .before .before .before .pick .ensures, c .before .before .before .before .before .before .before .before .conic-angle-bound-active .ensures, c .before .before .before .before .before .before .before .tan-angmax .ensures) (angub-stands _ _ (c .before .before .before .before .before .before .before .before .before .before .before .pre .0) _ (c .before .before .before .before .before .before .before .before .before .before .before .pre .1))

@@ -1,32 +1,25 @@
--- `lines::inner::cones::thermal_from` meets its contract. Assumes nothing.
-use Rattle.lines.proofs.Lines.{thermal-row, from-stands}
+-- `lines::inner::cones::thermal_from` meets its contract. So many limited branches are before it as the layout's row asks for. Assumes nothing.
+use Rattle.lines.proofs.Lines.{limits-in, thermal-fits, from-stands}
 use borrow.Author.Needs.{needs}
 use native.Mathlib.Omega.{arith}
 use Rattle.lines.proofs.inner.cones.thermal_from.Statement.{statement}
 use Rattle.lines.proofs.inner.cones.thermal_from.Tie as tie
 
-mul-row : tie.Need-mul-row
-mul-row c = let q = thermal-row _ _ (c .before .before .pre .0) _ _ _ (c .before .before .pre .1 .0) (c .thermal-row .ensures) (c .before .before .pre .1 .2) in omega arith
-
-cast-row : tie.Need-cast-row
-cast-row c = let q = thermal-row _ _ (c .before .before .pre .0) _ _ _ (c .before .before .pre .1 .0) (c .thermal-row .ensures) (c .before .before .pre .1 .2) in omega arith
-
-add-row : tie.Need-add-row
-add-row c = let q = thermal-row _ _ (c .before .before .pre .0) _ _ _ (c .before .before .pre .1 .0) (c .thermal-row .ensures) (c .before .before .pre .1 .2) in omega arith
-
-pf-column-requires : tie.Need-pf-column-requires
-pf-column-requires c κs = (c .before .before .before .before .pre .0 .range, c .before .before .before .before .pre .1 .0)
-
-qf-column-requires : tie.Need-qf-column-requires
-qf-column-requires c κs = (c .before .before .before .before .before .pre .0 .range, c .before .before .before .before .before .pre .1 .0)
+thermal-row-requires : tie.Need-thermal-row-requires
+thermal-row-requires c κs =
+    let s = c .before in
+    (s .pre .0 .range, (limits-in _ _ (s .pre .0) _ _ (s .pre .1 .0) (s .pre .1 .2), omega arith))
 
 thermal-requires : tie.Need-thermal-requires
-thermal-requires c κs = let q = thermal-row _ _ (c .before .before .before .before .before .before .pre .0) _ _ _ (c .before .before .before .before .before .before .pre .1 .0) (c .before .before .before .before .thermal-row .ensures) (c .before .before .before .before .before .before .pre .1 .2) in omega arith
+thermal-requires c κs =
+    let s = c .before .before .before .before .before .before in
+    thermal-fits _ _ (s .pre .0) _ 0 _ _ (s .pre .1 .0) (s .pre .1 .1) (omega arith) (c .before .before .before .before .thermal-row .ensures) (s .pre .1 .2)
 
 returns : tie.Need-returns
 returns c =
+    let s = c .before .before .before .before .before .before .before in
     rw (c .thermal .ensures, c .before .before .before .rate-a .ensures, c .before .before .pf-column .ensures, c .before .qf-column .ensures)
-    (from-stands _ _ (c .before .before .before .before .before .before .before .pre .0) _ _ (c .before .before .before .before .before .before .before .pre .1 .0) (c .before .before .before .before .before .before .before .pre .1 .1) (thermal-row _ _ (c .before .before .before .before .before .before .before .pre .0) _ _ _ (c .before .before .before .before .before .before .before .pre .1 .0) (c .before .before .before .before .before .thermal-row .ensures) (c .before .before .before .before .before .before .before .pre .1 .2) .2))
+    (from-stands _ _ (s .pre .0) _ _ _ (s .pre .1 .0) (s .pre .1 .1) (c .before .before .before .before .before .thermal-row .ensures) (s .pre .1 .2))
 
 pub thermal-from-spec : {M : Type 1} → statement M
-thermal-from-spec = tie.close (tie.spec (λ c κs. c .before .pre .0 .range) mul-row cast-row add-row (λ c. search needs) (λ c κs. search needs) pf-column-requires qf-column-requires thermal-requires returns)
+thermal-from-spec = tie.close (tie.spec thermal-row-requires (λ c. search needs) (λ c κs. search needs) (λ c κs. search needs) (λ c κs. search needs) thermal-requires returns)

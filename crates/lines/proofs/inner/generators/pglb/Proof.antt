@@ -1,14 +1,15 @@
 -- `lines::inner::generators::pglb` meets its contract. Assumes nothing.
 use Rattle.lines.proofs.Lines.{pglb-stands}
 use borrow.Author.Needs.{needs}
+use native.Mathlib.Omega.{arith}
 use Rattle.lines.proofs.inner.generators.pglb.Statement.{statement}
 use Rattle.lines.proofs.inner.generators.pglb.Tie as tie
 
 pglb-row-requires : tie.Need-pglb-row-requires
-pglb-row-requires c κs = (c .before .before .before .before .before .pre .0 .range, c .before .before .before .before .before .pre .1)
+pglb-row-requires c κs = (c .before .before .before .before .before .pre .0 .range, omega arith)
 
 pg-column-requires : tie.Need-pg-column-requires
-pg-column-requires c κs = (c .before .before .before .before .before .before .pre .0 .range, c .before .before .before .before .before .before .pre .1)
+pg-column-requires c κs = (c .before .before .before .before .before .before .pre .0 .range, omega arith)
 
 returns : tie.Need-returns
 returns c = rw (c .single .ensures, c .before .before .pglb-row .ensures, c .before .pg-column .ensures, c .before .before .before .pick .ensures, c .before .before .before .before .before .generator-capability-active .ensures, c .before .before .before .before .pmin .ensures) (pglb-stands _ _ (c .before .before .before .before .before .before .before .before .pre .0) _ (c .before .before .before .before .before .before .before .before .pre .1))

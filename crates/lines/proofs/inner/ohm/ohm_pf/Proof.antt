@@ -7,10 +7,10 @@ use Rattle.lines.proofs.inner.ohm.ohm_pf.Statement.{statement}
 use Rattle.lines.proofs.inner.ohm.ohm_pf.Tie as tie
 
 ohm-pf-row-requires : tie.Need-ohm-pf-row-requires
-ohm-pf-row-requires c κs = (c .before .before .before .before .before .before .before .before .before .before .before .before .before .before .before .before .pre .0 .range, c .before .before .before .before .before .before .before .before .before .before .before .before .before .before .before .before .pre .1)
+ohm-pf-row-requires c κs = (c .before .before .before .before .before .before .before .before .before .before .before .before .before .before .before .before .pre .0 .range, omega arith)
 
 pf-column-requires : tie.Need-pf-column-requires
-pf-column-requires c κs = (c .before .before .before .before .before .before .before .before .before .before .before .before .before .before .before .before .before .pre .0 .range, c .before .before .before .before .before .before .before .before .before .before .before .before .before .before .before .before .before .pre .1)
+pf-column-requires c κs = (c .before .before .before .before .before .before .before .before .before .before .before .before .before .before .before .before .before .pre .0 .range, omega arith)
 
 ohm-requires : tie.Need-ohm-requires
 ohm-requires c κs = (c .before .before .before .before .before .before .before .before .before .before .before .before .before .before .before .before .before .before .pre .0 .range, (c .before .before .before .before .before .before .before .before .before .before .before .before .before .before .before .before .before .before .pre .1, omega (arith, c .before .before .wide .ensures .0, c .before .before .before .br-from .ensures, c .before .before .before .before .before .before .before .before .before .before .before .before .before .before .before .before .before .before .pre .0 .accepted .from-below _ (c .before .before .before .before .before .before .before .before .before .before .before .before .before .before .before .before .before .before .pre .1))))

@@ -7,10 +7,10 @@ use Rattle.lines.proofs.inner.ohm.ohm_pt.Statement.{statement}
 use Rattle.lines.proofs.inner.ohm.ohm_pt.Tie as tie
 
 ohm-pt-row-requires : tie.Need-ohm-pt-row-requires
-ohm-pt-row-requires c κs = (c .before .before .before .before .before .before .before .before .before .before .before .before .before .before .before .pre .0 .range, c .before .before .before .before .before .before .before .before .before .before .before .before .before .before .before .pre .1)
+ohm-pt-row-requires c κs = (c .before .before .before .before .before .before .before .before .before .before .before .before .before .before .before .pre .0 .range, omega arith)
 
 pt-column-requires : tie.Need-pt-column-requires
-pt-column-requires c κs = (c .before .before .before .before .before .before .before .before .before .before .before .before .before .before .before .before .pre .0 .range, c .before .before .before .before .before .before .before .before .before .before .before .before .before .before .before .before .pre .1)
+pt-column-requires c κs = (c .before .before .before .before .before .before .before .before .before .before .before .before .before .before .before .before .pre .0 .range, omega arith)
 
 ohm-requires : tie.Need-ohm-requires
 ohm-requires c κs = (c .before .before .before .before .before .before .before .before .before .before .before .before .before .before .before .before .before .pre .0 .range, (c .before .before .before .before .before .before .before .before .before .before .before .before .before .before .before .before .before .pre .1, omega (arith, c .before .before .wide .ensures .0, c .before .before .before .br-to .ensures, c .before .before .before .before .before .before .before .before .before .before .before .before .before .before .before .before .before .pre .0 .accepted .to-below _ (c .before .before .before .before .before .before .before .before .before .before .before .before .before .before .before .before .before .pre .1))))

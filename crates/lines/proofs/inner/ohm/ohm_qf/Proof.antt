@@ -7,10 +7,10 @@ use Rattle.lines.proofs.inner.ohm.ohm_qf.Statement.{statement}
 use Rattle.lines.proofs.inner.ohm.ohm_qf.Tie as tie
 
 ohm-qf-row-requires : tie.Need-ohm-qf-row-requires
-ohm-qf-row-requires c κs = (c .before .before .before .before .before .before .before .before .before .before .before .before .before .before .before .before .pre .0 .range, c .before .before .before .before .before .before .before .before .before .before .before .before .before .before .before .before .pre .1)
+ohm-qf-row-requires c κs = (c .before .before .before .before .before .before .before .before .before .before .before .before .before .before .before .before .pre .0 .range, omega arith)
 
 qf-column-requires : tie.Need-qf-column-requires
-qf-column-requires c κs = (c .before .before .before .before .before .before .before .before .before .before .before .before .before .before .before .before .before .pre .0 .range, c .before .before .before .before .before .before .before .before .before .before .before .before .before .before .before .before .before .pre .1)
+qf-column-requires c κs = (c .before .before .before .before .before .before .before .before .before .before .before .before .before .before .before .before .before .pre .0 .range, omega arith)
 
 ohm-requires : tie.Need-ohm-requires
 ohm-requires c κs = (c .before .before .before .before .before .before .before .before .before .before .before .before .before .before .before .before .before .before .pre .0 .range, (c .before .before .before .before .before .before .before .before .before .before .before .before .before .before .before .before .before .before .pre .1, omega (arith, c .before .before .wide .ensures .0, c .before .before .before .br-from .ensures, c .before .before .before .before .before .before .before .before .before .before .before .before .before .before .before .before .before .before .pre .0 .accepted .from-below _ (c .before .before .before .before .before .before .before .before .before .before .before .before .before .before .before .before .before .before .pre .1))))

@@ -7,10 +7,10 @@ use Rattle.lines.proofs.inner.ohm.ohm_qt.Statement.{statement}
 use Rattle.lines.proofs.inner.ohm.ohm_qt.Tie as tie
 
 ohm-qt-row-requires : tie.Need-ohm-qt-row-requires
-ohm-qt-row-requires c κs = (c .before .before .before .before .before .before .before .before .before .before .before .before .before .before .before .pre .0 .range, c .before .before .before .before .before .before .before .before .before .before .before .before .before .before .before .pre .1)
+ohm-qt-row-requires c κs = (c .before .before .before .before .before .before .before .before .before .before .before .before .before .before .before .pre .0 .range, omega arith)
 
 qt-column-requires : tie.Need-qt-column-requires
-qt-column-requires c κs = (c .before .before .before .before .before .before .before .before .before .before .before .before .before .before .before .before .pre .0 .range, c .before .before .before .before .before .before .before .before .before .before .before .before .before .before .before .before .pre .1)
+qt-column-requires c κs = (c .before .before .before .before .before .before .before .before .before .before .before .before .before .before .before .before .pre .0 .range, omega arith)
 
 ohm-requires : tie.Need-ohm-requires
 ohm-requires c κs = (c .before .before .before .before .before .before .before .before .before .before .before .before .before .before .before .before .before .pre .0 .range, (c .before .before .before .before .before .before .before .before .before .before .before .before .before .before .before .before .before .pre .1, omega (arith, c .before .before .wide .ensures .0, c .before .before .before .br-to .ensures, c .before .before .before .before .before .before .before .before .before .before .before .before .before .before .before .before .before .pre .0 .accepted .to-below _ (c .before .before .before .before .before .before .before .before .before .before .before .before .before .before .before .before .before .pre .1))))
