@@ -11,12 +11,12 @@ use Rattle.lists.specs.Entries.{Cell}
 use Rattle.lists.proofs.Each.{when-false, when-nil, when-swap, when-append, each-nil, each-ext, each-when, each-at, each-at′, each-at-when, each-hit, each-group, each-three, each-four, when-pairs, when-order}
 use Rattle.records.specs.AcNetwork.{AcNetwork}
 use Rattle.records.proofs.Sound.{Sound}
-use Rattle.numbering.specs.Numbering.{columnKey, columnBlocks, rowNumber}
-use Rattle.numbering.specs.Blocks.{Valid}
+use Rattle.numbering.specs.Numbering.{columnKey, rowNumber}
 use Rattle.numbering.specs.declared.ColumnName.{ColumnName}
 use Rattle.numbering.specs.declared.ColumnName.the-variants.{Pg, Qg, W, Wr, Wi, Pf, Pt, Qf, Qt, CostOf}
 use Rattle.numbering.specs.declared.RowName.{RowName}
 use Rattle.numbering.specs.declared.RowName.the-variants.{Pbal, Qbal, OhmPf, OhmQf, OhmPt, OhmQt, Wub, Wlb, Pgub, Pglb, Qgub, Qglb, Angub, Anglb, Segment, Jabr, Thermal}
+use Rattle.numbering.proofs.Numbers.{HasColumn}
 use Rattle.rows.specs.Rows.{Constant, one, minusOne, half, minusHalf, constant64, zero64, Term, term, kept, OhmRow, pf, qf, pt, qt, w, wr, wi, flowColumn, endBus, ohmRow}
 use Rattle.rows.specs.Program.{everyRow}
 use Rattle.rows.proofs.Shape.{hitTerms, endTerms}
@@ -257,14 +257,14 @@ module _ (G : AcNetwork Float) (sound : Sound G) (bus-below : (g : ℕ) → g < 
       simp cuts (rw (each-group (G .segments) (λ g t. at G (Segment g t) (constant64 minusOne)) g (G .k) l, cones (CostOf g), each-nil (G .m)) (simp append-nil))
 
   -- what the code writes is the column
-  pub column-cells : (κ : ColumnName) → Valid (columnBlocks G) (columnKey κ) → column G κ ≡ columnCells G κ
-  column-cells (Pg g) v = col-pg g (v .item)
-  column-cells (Qg g) v = col-qg g (v .item)
-  column-cells (W i) v = col-w i (v .item)
-  column-cells (Wr e) v = col-wr e (v .item)
-  column-cells (Wi e) v = col-wi e (v .item)
-  column-cells (Pf e) v = col-pf e (v .item)
-  column-cells (Pt e) v = col-pt e (v .item)
-  column-cells (Qf e) v = col-qf e (v .item)
-  column-cells (Qt e) v = col-qt e (v .item)
-  column-cells (CostOf g) v = col-cost g (v .item)
+  pub column-cells : (κ : ColumnName) → HasColumn G κ → column G κ ≡ columnCells G κ
+  column-cells (Pg g) h = col-pg g h
+  column-cells (Qg g) h = col-qg g h
+  column-cells (W i) h = col-w i h
+  column-cells (Wr e) h = col-wr e h
+  column-cells (Wi e) h = col-wi e h
+  column-cells (Pf e) h = col-pf e h
+  column-cells (Pt e) h = col-pt e h
+  column-cells (Qf e) h = col-qf e h
+  column-cells (Qt e) h = col-qt e h
+  column-cells (CostOf g) h = col-cost g (h .0)

@@ -17,10 +17,11 @@ use Rattle.lists.proofs.Sums.{each-length, sum-ones}
 use Rattle.records.specs.AcNetwork.{AcNetwork}
 use Rattle.records.specs.Network.{networkOf, Accepted}
 use Rattle.records.proofs.Sound.{Sound, sound}
-use Rattle.numbering.specs.Numbering.{nvar, ncon, columnAt, columnNumber, columnBlocks, columnKey, rowNumber}
+use Rattle.numbering.specs.Numbering.{nvar, ncon, columnAt, columnNumber, rowNumber}
 use Rattle.numbering.specs.declared.RowName.{RowName}
-use Rattle.numbering.proofs.Points.{key-below}
+use Rattle.numbering.proofs.Numbers.{column-below}
 use Rattle.numbering.proofs.Names.{column-stands}
+use Rattle.numbering.proofs.EveryPoint.{column-there}
 use Rattle.rows.specs.Rows.{Term, terms}
 use Rattle.rows.specs.Program.{everyRow, inRow, program, matrix}
 use Rattle.matrix.specs.Columns.{columnCells}
@@ -117,16 +118,17 @@ listed-at f d (suc n) i h = elim (ℕ-discrete i n) [
 module _ (G : AcNetwork Float) (s : Sound G) (bus-below : (g : ℕ) → g < G .k → G .genBus g < G .n) where
   column-of : (c : ℕ) → c < nvar G → Rising 0 (ncon G) (select c (program G))
   column-of c h =
-      let k = column-stands G c h in
-      let e : select c (program G) ≡ columnCells G (columnAt G c) = ap (λ (p : ℕ). select p (program G)) (sym (k .number)) ∙ column-at G s bus-below (columnAt G c) (k .valid) in
-      rw e (rises G s bus-below (columnAt G c) (k .valid))
+      let x = columnAt G c in
+      let k = column-there G c h in
+      let e : select c (program G) ≡ columnCells G x = ap (λ (p : ℕ). select p (program G)) (sym (column-stands G c h .number)) ∙ column-at G s bus-below x k in
+      rw e (rises G s bus-below x k)
 
   -- no row has anything past the last column
   row-past : (c r : ℕ) → nvar G ≤ c → (ts : List Term) → All G ts → select c (inRow G r ts) ≡ []
   unfolding select
   row-past c r h [] a = refl
   row-past c r h (t ∷ ts) (also v a) =
-      let b : columnNumber G (t .col) < nvar G = key-below (columnBlocks G) (columnKey (t .col)) v in
+      let b : columnNumber G (t .col) < nvar G = column-below G (t .col) v in
       rw (ne-eqb (columnNumber G (t .col)) c (λ e. omega arith)) (row-past c r h ts a)
 
   past : (c : ℕ) → nvar G ≤ c → select c (program G) ≡ []

@@ -12,11 +12,12 @@ use Rattle.lists.specs.Entries.{Cell, cell}
 use Rattle.lists.proofs.Sums.{sum-mono, sum-next}
 use Rattle.records.specs.AcNetwork.{AcNetwork}
 use Rattle.records.proofs.Sound.{Sound}
-use Rattle.numbering.specs.Blocks.{before, Valid}
-use Rattle.numbering.specs.Numbering.{rowBlocks, rowNumber, ncon, columnBlocks, columnKey}
+use Rattle.numbering.specs.Numbering.{rowKey, rowNumber, ncon}
 use Rattle.numbering.specs.declared.ColumnName.{ColumnName}
 use Rattle.numbering.specs.declared.ColumnName.the-variants.{Pg, Qg, W, Wr, Wi, Pf, Pt, Qf, Qt, CostOf}
-use Rattle.numbering.specs.declared.RowName.the-variants.{Segment}
+use Rattle.numbering.specs.declared.RowName.{RowName}
+use Rattle.numbering.specs.declared.RowName.the-variants.{Pbal, Qbal, OhmPf, OhmQf, OhmPt, OhmQt, Wub, Wlb, Pgub, Pglb, Qgub, Qglb, Angub, Anglb, Segment, Jabr, Thermal}
+use Rattle.numbering.proofs.Numbers.{numbers, HasColumn, HasRow, row-below, row-rises}
 use Rattle.rows.specs.Rows.{zero64, OhmRow, pf, qf, pt, qt, OhmPlace, wr, wi, endBus, ohmRow}
 use Rattle.matrix.specs.Columns.{oneCell, nonzeroCell, pgCells, slopeCell, qgCells, shuntCells, ohmCell, boundCells, coneFrom, coneTo, ohmAt, conesAt, wCells, ohmCells, wrCells, wiCells, flowCells, costCell, costCells, columnCells}
 use Rattle.matrix.specs.Law.{Rising, stop, more}
@@ -65,124 +66,143 @@ up-either true false d h p q = up-nil p
 up-either false true d h p q = q
 up-either false false d h p q = stop h
 
-up-pair : (r s : ℕ) (v x : Float) → r < s → Rising r (s + 1) (oneCell r v ++ oneCell s x)
-up-pair r s v x h = up-join (up-one r v) (omega arith) (up-one s x)
+up-pair : (r s : ℕ) (v x : Float) → r + 1 ≤ s → Rising r (s + 1) (oneCell r v ++ oneCell s x)
+up-pair r s v x h = up-join (up-one r v) h (up-one s x)
 
-up-two : (r s : ℕ) (v x : Float) → r < s → Rising r (s + 1) (nonzeroCell r v ++ nonzeroCell s x)
-up-two r s v x h = up-join (up-nonzero r v) (omega arith) (up-nonzero s x)
+up-two : (r s : ℕ) (v x : Float) → r + 1 ≤ s → Rising r (s + 1) (nonzeroCell r v ++ nonzeroCell s x)
+up-two r s v x h = up-join (up-nonzero r v) h (up-nonzero s x)
 
 module _ (G : AcNetwork Float) (sound : Sound G) (bus-below : (g : ℕ) → g < G .k → G .genBus g < G .n) where
-  -- the rows of a limited branch, and of a generator's segments, are among all
-  limit-next : (e : ℕ) → e < G .m → G .limited e ≡ true → count e (G .limited) + 1 ≤ count (G .m) (G .limited)
-  limit-next e l p = omega (arith, sum-mono (e + 1) (G .m) (λ i. bit (G .limited i)) (omega arith), sum-next e (λ i. bit (G .limited i)), ap bit p)
+  -- a row of a later block comes after; and every row comes before the end
+  after : (x y : RowName) → HasRow G x → HasRow G y → rowKey x .block < rowKey y .block → rowNumber G x + 1 ≤ rowNumber G y
+  after x y h k l = omega (arith, row-rises G x y h k l)
 
-  segments-next : (g : ℕ) → g < G .k → sum g (G .segments) + G .segments g ≤ sum (G .k) (G .segments)
-  segments-next g l = omega (arith, sum-mono (g + 1) (G .k) (G .segments) (omega arith), sum-next g (G .segments))
+  within : (x : RowName) → HasRow G x → rowNumber G x + 1 ≤ ncon G
+  within x h = omega (arith, row-below G x h)
 
-  segment-rows : (g : ℕ) → g < G .k → (f : ℕ → List Cell) → ((t : ℕ) → Rising (rowNumber G (Segment g t)) (rowNumber G (Segment g t) + 1) (f t)) → Rising (before (rowBlocks G) 14) (ncon G) (each (G .segments g) f)
+  -- the rows of a generator's segments, from its first on
+  segment-rows : (g : ℕ) → g < G .k → (f : ℕ → List Cell) → ((t : ℕ) → Rising (rowNumber G (Segment g t)) (rowNumber G (Segment g t) + 1) (f t))
+      → Rising (rowNumber G (Segment g 0)) (ncon G) (each (G .segments g) f)
   segment-rows g l f h =
-      up-fit (before (rowBlocks G) 14) (ncon G) (omega arith) (omega (arith, segments-next g l))
-      (up-each (λ t. rowNumber G (Segment g t)) (G .segments g) f (λ t k. up-fit _ _ (omega arith) (omega arith) (h t)))
+      up-to (ncon G) (simp numbers (omega (arith, sum-mono (g + 1) (G .k) (G .segments) (omega arith), sum-next g (G .segments))))
+      (up-each (λ t. rowNumber G (Segment g t)) (G .segments g) f (λ t k. up-to _ (simp numbers (omega arith)) (h t)))
 
+  -- a generator's upper and lower bound
   rise-pg : (g : ℕ) → g < G .k → Rising 0 (ncon G) (pgCells G g)
   unfolding pgCells slopeCell
   rise-pg g l =
-      up-fit 0 (ncon G) (omega arith) (omega arith)
+      let below = after (Pgub g) (Pglb g) l l (omega arith) in
+      up-from 0 (omega arith)
       (up-join
-      (up-join (up-one _ _) (omega (arith, bus-below g l)) (up-when {lo = before (rowBlocks G) 8} {hi = before (rowBlocks G) 14} (G .capable g) (omega arith) (λ e. up-fit _ _ (omega arith) (omega arith) (up-pair _ _ _ _ (omega arith)))))
-      (omega arith) (segment-rows g l (slopeCell G g) (λ t. up-nonzero _ _)))
+      (up-join (up-one _ _) (after (Pbal (G .genBus g)) (Pgub g) (bus-below g l) l (omega arith)) (up-when (G .capable g) (omega arith) (λ e. up-pair _ _ _ _ below)))
+      (simp numbers (omega arith)) (segment-rows g l (slopeCell G g) (λ t. up-nonzero _ _)))
 
   rise-qg : (g : ℕ) → g < G .k → Rising 0 (ncon G) (qgCells G g)
   unfolding qgCells
   rise-qg g l =
-      up-fit 0 (ncon G) (omega arith) (omega arith)
-      (up-join (up-one _ _) (omega (arith, bus-below g l)) (up-when {lo = before (rowBlocks G) 10} {hi = before (rowBlocks G) 14} (G .capable g) (omega arith) (λ e. up-fit _ _ (omega arith) (omega arith) (up-pair _ _ _ _ (omega arith)))))
+      let below = after (Qgub g) (Qglb g) l l (omega arith) in
+      up-fit 0 (ncon G) (omega arith) (within (Qglb g) l)
+      (up-join (up-one _ _) (after (Qbal (G .genBus g)) (Qgub g) (bus-below g l) l (omega arith)) (up-when (G .capable g) (omega arith) (λ e. up-pair _ _ _ _ below)))
 
   rise-cost : (g : ℕ) → g < G .k → Rising 0 (ncon G) (costCells G g)
   unfolding costCells costCell
   rise-cost g l = up-from 0 (omega arith) (segment-rows g l (costCell G g) (λ t. up-one _ _))
 
-  rise-four : (p : OhmPlace) (e : ℕ) → e < G .m → Rising 0 (before (rowBlocks G) 6) (ohmCells G p e)
+  -- the four Ohm rows, the two angle rows and a row of the cone
+  rise-four : (p : OhmPlace) (e : ℕ) → e < G .m → Rising 0 (rowNumber G (OhmQt e) + 1) (ohmCells G p e)
   unfolding ohmCells
   rise-four p e l =
-      up-fit 0 (before (rowBlocks G) 6) (omega arith) (omega arith)
-      (up-join (up-join (up-join (up-nonzero _ _) (omega arith) (up-nonzero _ _)) (omega arith) (up-nonzero _ _)) (omega arith) (up-nonzero _ _))
+      up-from 0 (omega arith)
+      (up-join (up-join (up-two _ _ _ _ (after (OhmPf e) (OhmQf e) l l (omega arith)))
+      (after (OhmQf e) (OhmPt e) l l (omega arith)) (up-nonzero _ _)) (after (OhmPt e) (OhmQt e) l l (omega arith)) (up-nonzero _ _))
+
+  rise-branch : (p : OhmPlace) (e q : ℕ) → e < G .m → q < 4 → (angle : List Cell) (v : Float)
+      → Rising (rowNumber G (Angub e)) (rowNumber G (Anglb e) + 1) angle
+      → Rising 0 (ncon G) (ohmCells G p e ++ when (G .angled e) angle ++ oneCell (rowNumber G (Jabr e q)) v)
+  rise-branch p e q l h angle v a =
+      let up = after (Angub e) (Anglb e) l l (omega arith) in
+      up-to (ncon G) (within (Jabr e q) (l, h))
+      (up-join (up-join (rise-four p e l) (after (OhmQt e) (Angub e) l l (omega arith)) (up-when (G .angled e) (omega arith) (λ t. a)))
+      (after (Anglb e) (Jabr e q) l (l, h) (omega arith)) (up-one _ v))
 
   rise-wr : (e : ℕ) → e < G .m → Rising 0 (ncon G) (wrCells G e)
   unfolding wrCells
-  rise-wr e l =
-      up-fit 0 (ncon G) (omega arith) (omega arith)
-      (up-join
-      (up-join (rise-four wr e l) (omega arith) (up-when {lo = before (rowBlocks G) 12} {hi = before (rowBlocks G) 14} (G .angled e) (omega arith) (λ p. up-fit _ _ (omega arith) (omega arith) (up-two _ _ _ _ (omega arith)))))
-      (omega arith) (up-one _ _))
+  rise-wr e l = rise-branch wr e 1 l (omega arith) _ _ (up-two _ _ _ _ (after (Angub e) (Anglb e) l l (omega arith)))
 
   rise-wi : (e : ℕ) → e < G .m → Rising 0 (ncon G) (wiCells G e)
   unfolding wiCells
-  rise-wi e l =
-      up-fit 0 (ncon G) (omega arith) (omega arith)
-      (up-join
-      (up-join (rise-four wi e l) (omega arith) (up-when {lo = before (rowBlocks G) 12} {hi = before (rowBlocks G) 14} (G .angled e) (omega arith) (λ p. up-fit _ _ (omega arith) (omega arith) (up-pair _ _ _ _ (omega arith)))))
-      (omega arith) (up-one _ _))
+  rise-wi e l = rise-branch wi e 2 l (omega arith) _ _ (up-pair _ _ _ _ (after (Angub e) (Anglb e) l l (omega arith)))
 
-  flow-rows : (b o t : ℕ) (l : Bool) (u v x : Float) → b < o → o < t → o < ncon G → (l ≡ true → t < ncon G) → Rising 0 (ncon G) (oneCell b u ++ oneCell o v ++ when l (oneCell t x))
-  flow-rows b o t l u v x p q z h =
-      up-fit 0 (ncon G) (omega arith) (omega arith)
-      (up-join (up-pair b o u v p) (omega arith) (up-when {lo = o + 1} {hi = ncon G} l (omega arith) (λ e. up-fit (o + 1) (ncon G) (omega arith) (omega (arith, h e)) (up-one t x))))
+  -- a flow's balance row, its Ohm row and, of a limited branch, its thermal row
+  flow-rows : (b o t : RowName) (l : Bool) (u v x : Float) → rowNumber G b + 1 ≤ rowNumber G o → HasRow G o → (l ≡ true → HasRow G t) → rowKey o .block < rowKey t .block
+      → Rising 0 (ncon G) (oneCell (rowNumber G b) u ++ oneCell (rowNumber G o) v ++ when l (oneCell (rowNumber G t) x))
+  flow-rows b o t l u v x p q h k =
+      up-from 0 (omega arith)
+      (up-join (up-pair _ _ u v p) (omega arith)
+      (up-when {lo = rowNumber G o + 1} {hi = ncon G} l (within o q) (λ e. up-fit _ _ (after o t q (h e) k) (within t (h e)) (up-one _ x))))
 
   rise-flow : (r : OhmRow) (e : ℕ) → e < G .m → Rising 0 (ncon G) (flowCells G r e)
   unfolding flowCells
-  rise-flow pf e l = flow-rows _ _ _ (G .limited e) _ _ _ (omega (arith, sound .fromBus e l)) (omega arith) (omega arith) (λ p. omega (arith, limit-next e l p))
-  rise-flow qf e l = flow-rows _ _ _ (G .limited e) _ _ _ (omega (arith, sound .fromBus e l)) (omega arith) (omega arith) (λ p. omega (arith, limit-next e l p))
-  rise-flow pt e l = flow-rows _ _ _ (G .limited e) _ _ _ (omega (arith, sound .toBus e l)) (omega arith) (omega arith) (λ p. omega (arith, limit-next e l p))
-  rise-flow qt e l = flow-rows _ _ _ (G .limited e) _ _ _ (omega (arith, sound .toBus e l)) (omega arith) (omega arith) (λ p. omega (arith, limit-next e l p))
+  rise-flow pf e l =
+      flow-rows (Pbal (G .from e)) (OhmPf e) (Thermal e 1) _ _ _ _ (after (Pbal (G .from e)) (OhmPf e) (sound .fromBus e l) l (omega arith)) l (λ p. (l, p, omega arith)) (omega arith)
+  rise-flow qf e l =
+      flow-rows (Qbal (G .from e)) (OhmQf e) (Thermal e 2) _ _ _ _ (after (Qbal (G .from e)) (OhmQf e) (sound .fromBus e l) l (omega arith)) l (λ p. (l, p, omega arith)) (omega arith)
+  rise-flow pt e l =
+      flow-rows (Pbal (G .to e)) (OhmPt e) (Thermal e 4) _ _ _ _ (after (Pbal (G .to e)) (OhmPt e) (sound .toBus e l) l (omega arith)) l (λ p. (l, p, omega arith)) (omega arith)
+  rise-flow qt e l =
+      flow-rows (Qbal (G .to e)) (OhmQt e) (Thermal e 5) _ _ _ _ (after (Qbal (G .to e)) (OhmQt e) (sound .toBus e l) l (omega arith)) l (λ p. (l, p, omega arith)) (omega arith)
 
+  -- the rows of a block of Ohm rows that a bus has a cell in
   scan : (r : OhmRow) (i : ℕ) → Rising (rowNumber G (ohmRow r 0)) (rowNumber G (ohmRow r 0) + G .m) (each (G .m) (ohmAt G r i))
   unfolding ohmAt ohmCell
   scan r i =
-      up-fit _ _ (omega arith) (omega arith)
+      up-from _ (omega arith)
       (up-each (λ e. rowNumber G (ohmRow r 0) + e) (G .m) (ohmAt G r i)
-      (λ e l. up-when (eqb (endBus G r e) i) (omega arith) (λ q. up-fit _ _ (at-row r e) (at-next r e) (up-nonzero (rowNumber G (ohmRow r e)) _))))
+      (λ e l. up-when (eqb (endBus G r e) i) (omega arith) (λ q. up-fit _ _ (omega (arith, at-row r e)) (omega (arith, at-row r e)) (up-nonzero (rowNumber G (ohmRow r e)) _))))
     where
-      at-row : (r : OhmRow) (e : ℕ) → rowNumber G (ohmRow r 0) + e ≤ rowNumber G (ohmRow r e)
-      at-row pf e = omega arith
-      at-row qf e = omega arith
-      at-row pt e = omega arith
-      at-row qt e = omega arith
+      at-row : (r : OhmRow) (e : ℕ) → rowNumber G (ohmRow r e) ≡ rowNumber G (ohmRow r 0) + e
+      at-row pf e = simp numbers (omega arith)
+      at-row qf e = simp numbers (omega arith)
+      at-row pt e = simp numbers (omega arith)
+      at-row qt e = simp numbers (omega arith)
 
-      at-next : (r : OhmRow) (e : ℕ) → rowNumber G (ohmRow r e) + 1 ≤ rowNumber G (ohmRow r 0) + (e + 1)
-      at-next pf e = omega arith
-      at-next qf e = omega arith
-      at-next pt e = omega arith
-      at-next qt e = omega arith
-
-  cones : (i : ℕ) → Rising (before (rowBlocks G) 15) (before (rowBlocks G) 15 + 4 * G .m) (each (G .m) (conesAt G i))
+  -- the rows of the cones; a branch's first and last, where one of its ends is the bus
+  cones : (i : ℕ) → Rising (rowNumber G (Jabr 0 0)) (rowNumber G (Jabr 0 0) + 4 * G .m) (each (G .m) (conesAt G i))
   unfolding conesAt coneFrom coneTo
   cones i =
-      up-fit _ _ (omega arith) (omega arith)
-      (up-each (λ e. before (rowBlocks G) 15 + 4 * e) (G .m) (conesAt G i)
+      up-from _ (omega arith)
+      (up-each (λ e. rowNumber G (Jabr 0 0) + 4 * e) (G .m) (conesAt G i)
       (λ e l.
       up-either (eqb (G .from e) i) (eqb (G .to e) i) (λ p q. sound .apart e l (eqb-true (G .from e) i p ∙ sym (eqb-true (G .to e) i q))) (omega arith)
-      (up-fit _ _ (omega arith) (omega arith) (up-pair _ _ _ _ (omega arith))) (up-fit _ _ (omega arith) (omega arith) (up-pair _ _ _ _ (omega arith)))))
+      (pair e _ _) (pair e _ _)))
+    where
+      at-row : (e q : ℕ) → rowNumber G (Jabr e q) ≡ rowNumber G (Jabr 0 0) + 4 * e + q
+      at-row e q = simp numbers (omega arith)
+
+      pair : (e : ℕ) (u v : Float)
+          → Rising (rowNumber G (Jabr 0 0) + 4 * e) (rowNumber G (Jabr 0 0) + 4 * (e + 1)) (oneCell (rowNumber G (Jabr e 0)) u ++ oneCell (rowNumber G (Jabr e 3)) v)
+      pair e u v = up-fit _ _ (omega (arith, at-row e 0)) (omega (arith, at-row e 3)) (up-pair _ _ _ _ (omega (arith, at-row e 0, at-row e 3)))
 
   rise-w : (i : ℕ) → i < G .n → Rising 0 (ncon G) (wCells G i)
   unfolding wCells shuntCells boundCells
   rise-w i l =
-      up-fit 0 (ncon G) (omega arith) (omega arith)
+      let below = after (Wub i) (Wlb i) l l (omega arith) in
+      up-fit 0 (ncon G) (omega arith) (simp numbers (omega arith))
       (up-join
       (up-join
-      (up-join (up-join (up-join (up-join (up-two _ _ _ _ (omega arith)) (omega arith) (scan pf i)) (omega arith) (scan qf i)) (omega arith) (scan pt i)) (omega arith) (scan qt i))
-      (omega arith)
-      (up-when {lo = before (rowBlocks G) 6} {hi = before (rowBlocks G) 8} (G .bounded i) (omega arith) (λ p. up-fit _ _ (omega arith) (omega arith) (up-pair _ _ _ _ (omega arith)))))
-      (omega arith) (cones i))
+      (up-join (up-join (up-join (up-join (up-two _ _ _ _ (after (Pbal i) (Qbal i) l l (omega arith))) (simp numbers (omega arith)) (scan pf i)) (simp numbers (omega arith)) (scan qf i)) (simp numbers (omega arith)) (scan pt i)) (simp numbers (omega arith)) (scan qt i))
+      (simp numbers (omega arith))
+      (up-when (G .bounded i) (omega arith) (λ p. up-pair _ _ _ _ below)))
+      (simp numbers (omega arith)) (cones i))
 
-  pub rises : (κ : ColumnName) → Valid (columnBlocks G) (columnKey κ) → Rising 0 (ncon G) (columnCells G κ)
-  rises (Pg g) v = rise-pg g (v .item)
-  rises (Qg g) v = rise-qg g (v .item)
-  rises (W i) v = rise-w i (v .item)
-  rises (Wr e) v = rise-wr e (v .item)
-  rises (Wi e) v = rise-wi e (v .item)
-  rises (Pf e) v = rise-flow pf e (v .item)
-  rises (Pt e) v = rise-flow pt e (v .item)
-  rises (Qf e) v = rise-flow qf e (v .item)
-  rises (Qt e) v = rise-flow qt e (v .item)
-  rises (CostOf g) v = rise-cost g (v .item)
+  pub rises : (κ : ColumnName) → HasColumn G κ → Rising 0 (ncon G) (columnCells G κ)
+  rises (Pg g) h = rise-pg g h
+  rises (Qg g) h = rise-qg g h
+  rises (W i) h = rise-w i h
+  rises (Wr e) h = rise-wr e h
+  rises (Wi e) h = rise-wi e h
+  rises (Pf e) h = rise-flow pf e h
+  rises (Pt e) h = rise-flow pt e h
+  rises (Qf e) h = rise-flow qf e h
+  rises (Qt e) h = rise-flow qt e h
+  rises (CostOf g) h = rise-cost g (h .0)

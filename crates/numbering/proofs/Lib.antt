@@ -4,6 +4,7 @@ pub mod Laid
 pub mod Points
 pub mod Numbers
 pub mod Names
+pub mod EveryPoint
 pub mod Entered
 pub mod ConeLengths
 pub mod OnePass

@@ -92,7 +92,7 @@ module _ {A : Type 0} (G : AcNetwork A) where
   row-named i q =
       (one 0 i q, (one 1 i q, (one 2 i q, (one 3 i q, (one 4 i q, (one 5 i q, (one 6 i q, (one 7 i q, (one 8 i q, (one 9 i q, (one 10 i q, (one 11 i q, (one 12 i q, (one 13 i q, (λ h. refl, (λ h. refl, (λ h. refl, tt)))))))))))))))))
 
-  row-key : (x : Key) → Valid (rowBlocks G) x → rowKey (rowOf x) ≡ x
+  pub row-key : (x : Key) → Valid (rowBlocks G) x → rowKey (rowOf x) ≡ x
   row-key x v =
       rw add-zero at (named rowKey (x .item) (x .place) (rowBlocks G) (rowNames (x .item) (x .place)) 0
       (row-named (x .item) (x .place)) (Pbal 0) (x .block) (v .place))
@@ -113,7 +113,7 @@ module _ {A : Type 0} (G : AcNetwork A) where
   column-named i q =
       (one 0 i q, (one 1 i q, (one 2 i q, (one 3 i q, (one 4 i q, (one 5 i q, (one 6 i q, (one 7 i q, (one 8 i q, (only 9 i q (1 * bit (G .piecewise i)) (omega (arith, bit-le (G .piecewise i))), tt))))))))))
 
-  column-key : (x : Key) → Valid (columnBlocks G) x → columnKey (columnOf x) ≡ x
+  pub column-key : (x : Key) → Valid (columnBlocks G) x → columnKey (columnOf x) ≡ x
   column-key x v =
       rw add-zero at (named columnKey (x .item) (x .place) (columnBlocks G) (columnNames (x .item)) 0
       (column-named (x .item) (x .place)) (Pg 0) (x .block) (v .place))
