@@ -17,6 +17,7 @@ use Rattle.records.specs.Fields.{segmentsOf, piecewiseOf, slopeOf, interceptOf,
 use Rattle.records.specs.Network.{Accepted, networkOf, segmentRecord}
 use Rattle.numbering.specs.Numbering.{columnNumber}
 use Rattle.numbering.specs.declared.ColumnName.the-variants.{Pg}
+use Rattle.numbering.proofs.Numbers.{numbers}
 use Rattle.rows.specs.Rows.{zero64}
 
 or-true : (t : Bool) → t || true ≡ true
@@ -77,7 +78,7 @@ module _ (n m k s : ℕ) (b : List ℕ) where
       → add binary64 sum v ≡ total-so-far (networkOf n m k s b) x (g + 1)
   unfolding generatorCost segmentRecord
   total-more x g first count sum v e f h w =
-      let at : g ≡ columnNumber (networkOf n m k s b) (Pg g) = omega arith in
+      let at : g ≡ columnNumber (networkOf n m k s b) (Pg g) = simp numbers (omega arith) in
       let cost : v ≡ generatorCost (networkOf n m k s b) g (getD x (columnNumber (networkOf n m k s b) (Pg g)) nan)
       = w ∙ rw (e, f) (ap (λ (i : ℕ). generatorCost (networkOf n m k s b) g (getD x i nan)) at) in
       ap₂ (add binary64) h cost

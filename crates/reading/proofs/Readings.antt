@@ -23,6 +23,13 @@ use Rattle.records.specs.Network as Network
 use Rattle.records.specs.Check.{checkOf}
 use Rattle.records.proofs.Laws.{accepted}
 use Rattle.numbering.specs.Numbering.{nvar, columnNumber}
+use Rattle.numbering.specs.Layout.{layoutOf, layoutColumn, nvarOf}
+use Rattle.numbering.specs.Lookups.{layoutIf}
+use Rattle.numbering.specs.Laid.{netOf, Laid}
+use Rattle.numbering.specs.declared.SocWrLayout.{SocWrLayout}
+use Rattle.numbering.specs.declared.ColumnName.the-variants.{Pg, Qg, W, Wr, Wi, Pf, Pt, Qf, Qt}
+use Rattle.numbering.proofs.Laid.{laid, laid-nvar}
+use Rattle.numbering.proofs.Numbers.{numbers, column-number, ncon-number, layout-column, layout-nvar}
 use Rattle.solution.proofs.Lengths.{x-long, z-long}
 use Rattle.reading.specs.Reading.{partColumn, partCount, partList, partIf, partCheck, partOf, pricesCheck, priceList, scalarIf, objectiveOf, objectiveAt}
 use Rattle.reading.specs.declared.SolutionList.{SolutionList}
@@ -56,45 +63,60 @@ values x at count h =
     ext-getD nan _ _ (l ∙ sym (listed-length _ count))
     (λ i b. getD-take count (drop at x) i nan (omega arith) ∙ getD-drop at x i nan ∙ sym (listed-at (λ i. getD x (at + i) nan) count i nan (omega arith)))
 
-module _ (n m k s : ℕ) (b : List ℕ) where
+-- a list starts at its first column, and its columns follow each other
+module _ (l : SocWrLayout) (b : List ℕ) where
   abbrev start : SolutionList → ℕ
-  start p = columnNumber (networkOf n m k 0 []) (partColumn p 0)
+  start p = layoutColumn l (partColumn p 0)
 
-  in-order : (p : SolutionList) (i : ℕ) → start p + i ≡ columnNumber (networkOf n m k s b) (partColumn p i)
-  in-order SolutionList.Pg i = omega arith
-  in-order SolutionList.Qg i = omega arith
-  in-order SolutionList.W i = omega arith
-  in-order SolutionList.Wr i = omega arith
-  in-order SolutionList.Wi i = omega arith
-  in-order SolutionList.Pf i = omega arith
-  in-order SolutionList.Pt i = omega arith
-  in-order SolutionList.Qf i = omega arith
-  in-order SolutionList.Qt i = omega arith
+  in-order : (p : SolutionList) (i : ℕ) → start p + i ≡ columnNumber (netOf l b) (partColumn p i)
+  in-order SolutionList.Pg i = omega (arith, layout-column l (Pg 0), column-number (netOf l b) (Pg i))
+  in-order SolutionList.Qg i = omega (arith, layout-column l (Qg 0), column-number (netOf l b) (Qg i))
+  in-order SolutionList.W i = omega (arith, layout-column l (W 0), column-number (netOf l b) (W i))
+  in-order SolutionList.Wr i = omega (arith, layout-column l (Wr 0), column-number (netOf l b) (Wr i))
+  in-order SolutionList.Wi i = omega (arith, layout-column l (Wi 0), column-number (netOf l b) (Wi i))
+  in-order SolutionList.Pf i = omega (arith, layout-column l (Pf 0), column-number (netOf l b) (Pf i))
+  in-order SolutionList.Pt i = omega (arith, layout-column l (Pt 0), column-number (netOf l b) (Pt i))
+  in-order SolutionList.Qf i = omega (arith, layout-column l (Qf 0), column-number (netOf l b) (Qf i))
+  in-order SolutionList.Qt i = omega (arith, layout-column l (Qt 0), column-number (netOf l b) (Qt i))
 
-  pub part-fits : (p : SolutionList) → start p + partCount n m k p ≤ nvar (networkOf n m k s b)
-  part-fits SolutionList.Pg = omega arith
-  part-fits SolutionList.Qg = omega arith
-  part-fits SolutionList.W = omega arith
-  part-fits SolutionList.Wr = omega arith
-  part-fits SolutionList.Wi = omega arith
-  part-fits SolutionList.Pf = omega arith
-  part-fits SolutionList.Pt = omega arith
-  part-fits SolutionList.Qf = omega arith
-  part-fits SolutionList.Qt = omega arith
+  pub part-fits : (p : SolutionList) → start p + partCount (l .n) (l .m) (l .k) p ≤ nvarOf l
+  part-fits SolutionList.Pg = omega (arith, layout-column l (Pg 0), layout-nvar l)
+  part-fits SolutionList.Qg = omega (arith, layout-column l (Qg 0), layout-nvar l)
+  part-fits SolutionList.W = omega (arith, layout-column l (W 0), layout-nvar l)
+  part-fits SolutionList.Wr = omega (arith, layout-column l (Wr 0), layout-nvar l)
+  part-fits SolutionList.Wi = omega (arith, layout-column l (Wi 0), layout-nvar l)
+  part-fits SolutionList.Pf = omega (arith, layout-column l (Pf 0), layout-nvar l)
+  part-fits SolutionList.Pt = omega (arith, layout-column l (Pt 0), layout-nvar l)
+  part-fits SolutionList.Qf = omega (arith, layout-column l (Qf 0), layout-nvar l)
+  part-fits SolutionList.Qt = omega (arith, layout-column l (Qt 0), layout-nvar l)
 
-  part-is : (x : List Float) (p : SolutionList) → length x ≡ nvar (networkOf n m k s b)
-      → take (partCount n m k p) (drop (start p) x) ≡ partList (networkOf n m k s b) x p
+  part-is : (x : List Float) (p : SolutionList) → length x ≡ nvarOf l
+      → take (partCount (l .n) (l .m) (l .k) p) (drop (start p) x) ≡ partList (netOf l b) x p
   unfolding partList
   part-is x p h =
-      values x (start p) (partCount n m k p) (omega (arith, part-fits p))
-      ∙ each-ext (λ i. getD x (start p + i) nan ∷ []) (λ i. getD x (columnNumber (networkOf n m k s b) (partColumn p i)) nan ∷ []) (partCount n m k p) (λ i b. rw (in-order p i))
+      values x (start p) _ (omega (arith, part-fits p))
+      ∙ each-ext (λ i. getD x (start p + i) nan ∷ []) (λ i. getD x (columnNumber (netOf l b) (partColumn p i)) nan ∷ []) _ (λ i b. rw (in-order p i))
+
+module _ (n m k s : ℕ) (b : List ℕ) where
+  -- a check that did not refuse: the layout is the network's, and x has its length
+  pub part-laid : (x : List Float) {r : Checked} {l : SocWrLayout} → r ≡ partCheck n m k s b x → isRefused r ≡ false → l ≡ layoutIf (checkOf n m k s b) (networkOf n m k s b)
+      → (l ≡ layoutOf (networkOf n m k s b)) × Laid l b × (length x ≡ nvarOf l)
+  unfolding partCheck
+  part-laid x {r} {l} e h f =
+      let p = orElse-accepted _ _ (sym e ∙ passed r h) in
+      let g : l ≡ layoutOf (networkOf n m k s b) = rw (p .0) at f in
+      let a = laid n m k s b (accepted n m k s b (p .0)) g in
+      (g, a, x-long _ _ (p .1) ∙ rw (laid-nvar l b a, g))
 
   -- read, and refused
-  pub part-read : (x : List Float) (p : SolutionList) (at count : ℕ) {r : Checked} → r ≡ partCheck n m k s b x → isRefused r ≡ false
-      → at ≡ start p → count ≡ partCount n m k p → take count (drop at x) ≡ partOf n m k s b x p
+  pub part-read : (x : List Float) (p : SolutionList) {at count : ℕ} {r : Checked} {l : SocWrLayout}
+      → r ≡ partCheck n m k s b x → isRefused r ≡ false → l ≡ layoutIf (checkOf n m k s b) (networkOf n m k s b)
+      → at ≡ layoutColumn l (partColumn p 0) → count ≡ partCount (l .n) (l .m) (l .k) p → take count (drop at x) ≡ partOf n m k s b x p
   unfolding partOf partIf
-  part-read x p at count {r} e h f g =
-      rw (sym e ∙ passed r h, f, g) (part-is x p (part-went n m k s b x e h .1))
+  part-read x p {at} {count} {r} {l} e h f g c =
+      let w = part-laid x e h f in
+      let q : take count (drop at x) ≡ partList (netOf l b) x p = rw (g, c) (part-is l b x p (w .2)) in
+      rw (sym e ∙ passed r h) (rw (w .0) at q)
 
   pub part-refused : (x : List Float) (p : SolutionList) {r : Checked} → r ≡ partCheck n m k s b x → isRefused r ≡ true → _≡_ {A = List Float} [] (partOf n m k s b x p)
   unfolding partOf
@@ -107,11 +129,11 @@ module _ (n m k s : ℕ) (b : List ℕ) where
   prices-went z room h =
       let p = orElse-accepted _ _ h in
       let q = orElse-accepted _ _ (p .1) in
-      (accepted n m k s b (p .0), omega (arith, z-long (networkOf n m k s b) (length z) (q .0)), leb-true _ _ (test-held _ _ (q .1)))
+      (accepted n m k s b (p .0), omega (arith, z-long (networkOf n m k s b) (length z) (q .0), ncon-number (networkOf n m k s b)), leb-true _ _ (test-held _ _ (q .1)))
 
   price-list : (z : List Float) → listed n (λ i. neg (getD z i nan)) ++ listed n (λ i. neg (getD z (n + i) nan)) ≡ priceList (networkOf n m k s b) z
   unfolding priceList
-  price-list z = ap₂ _++_ (each-ext _ _ n (λ i l. same i _ (omega arith))) (each-ext _ _ n (λ i l. same (n + i) _ (omega arith)))
+  price-list z = ap₂ _++_ (each-ext _ _ n (λ i l. same i _ (simp numbers (omega arith)))) (each-ext _ _ n (λ i l. same (n + i) _ (simp numbers (omega arith))))
     where
       same : (i j : ℕ) → i ≡ j → _≡_ {A = List Float} (neg (getD z i nan) ∷ []) (neg (getD z j nan) ∷ [])
       same i j e = rw e

@@ -1,52 +1,43 @@
 // The lists of x, as parts of the x that is lent.
 use crate::SolutionList;
-use crate::part_check;
+use crate::checks::check_part;
+use numbering::SocWrLayout;
 use refusals::is_refused;
 ghost use mathlib.Core.Path.{_≡_};
-ghost use mathlib.Core.List.{[]};
-ghost use Prim.Native.Nat.{_≤_};
-ghost use Rattle.records.specs.Network.{networkOf};
-ghost use Rattle.numbering.specs.Numbering.{columnNumber};
+ghost use Rattle.numbering.specs.Layout.{InRange, layoutColumn};
 ghost use Rattle.reading.specs.Reading.{partColumn, partCount, partOf};
 
-// The first column of a list: n, m and k alone give it.
-fn start_of(n: usize, m: usize, k: usize, part: SolutionList) -> usize
-    requires { ⌜ (n ≤ 4096) × (m ≤ 8192) × (k ≤ 4096) ⌝ }
-    ensures { λ r. ⌜ r ≡ columnNumber (networkOf n m k 0 []) (partColumn part 0) ⌝ }
+// The first column of a list, and how many it has.
+fn start_of(l: SocWrLayout, part: SolutionList) -> u32
+    requires { ⌜ InRange l ⌝ }
+    ensures { λ r. ⌜ r ≡ layoutColumn l (partColumn part 0) ⌝ }
 {
-    let w = 2 * k;
-    let wr = w + n;
-    let wi = wr + m;
-    let pf = wi + m;
-    let pt = pf + m;
-    let qf = pt + m;
-    let qt = qf + m;
     match part {
-        SolutionList::Pg => 0,
-        SolutionList::Qg => k,
-        SolutionList::W => w,
-        SolutionList::Wr => wr,
-        SolutionList::Wi => wi,
-        SolutionList::Pf => pf,
-        SolutionList::Pt => pt,
-        SolutionList::Qf => qf,
-        SolutionList::Qt => qt,
+        SolutionList::Pg => l.pg_column(0),
+        SolutionList::Qg => l.qg_column(0),
+        SolutionList::W => l.w_column(0),
+        SolutionList::Wr => l.wr_column(0),
+        SolutionList::Wi => l.wi_column(0),
+        SolutionList::Pf => l.pf_column(0),
+        SolutionList::Pt => l.pt_column(0),
+        SolutionList::Qf => l.qf_column(0),
+        SolutionList::Qt => l.qt_column(0),
     }
 }
 
-fn count_of(n: usize, m: usize, k: usize, part: SolutionList) -> usize
-    ensures { λ r. ⌜ r ≡ partCount n m k part ⌝ }
+fn count_of(l: SocWrLayout, part: SolutionList) -> usize
+    ensures { λ r. ⌜ r ≡ partCount (l .n) (l .m) (l .k) part ⌝ }
 {
     match part {
-        SolutionList::Pg => k,
-        SolutionList::Qg => k,
-        SolutionList::W => n,
-        SolutionList::Wr => m,
-        SolutionList::Wi => m,
-        SolutionList::Pf => m,
-        SolutionList::Pt => m,
-        SolutionList::Qf => m,
-        SolutionList::Qt => m,
+        SolutionList::Pg => l.k,
+        SolutionList::Qg => l.k,
+        SolutionList::W => l.n,
+        SolutionList::Wr => l.m,
+        SolutionList::Wi => l.m,
+        SolutionList::Pf => l.m,
+        SolutionList::Pt => l.m,
+        SolutionList::Qf => l.m,
+        SolutionList::Qt => l.m,
     }
 }
 
@@ -62,10 +53,13 @@ pub fn part<'a>(
 ) -> &'a [f64]
     ensures { λ r. ⌜ now r ≡ partOf n m k s (now (bytes .entry)) (now (x .entry)) part ⌝ }
 {
-    if is_refused(part_check(n, m, k, s, bytes, x)) {
+    let checked = check_part(n, m, k, s, bytes, x);
+    let check = checked.check;
+    if is_refused(check) {
         return &x[..0];
     }
-    let start = start_of(n, m, k, part);
-    let end = start + count_of(n, m, k, part);
+    let l = checked.layout;
+    let start = start_of(l, part) as usize;
+    let end = start + count_of(l, part);
     &x[start..end]
 }

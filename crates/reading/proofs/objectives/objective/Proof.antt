@@ -4,6 +4,8 @@ use mathlib.Core.Path.{sym, _∙_, ap}
 use native.Mathlib.Omega.{arith}
 use Rattle.refusals.proofs.Laws.{passed}
 use Rattle.reading.specs.Reading.{objectiveAnswer}
+use Rattle.records.specs.Network.{networkOf}
+use Rattle.numbering.proofs.Numbers.{nvar-number}
 use Rattle.reading.proofs.Readings.{part-went, no-scalar, scalar-value}
 use borrow.Author.Needs.{needs}
 use Rattle.reading.proofs.objectives.objective.Statement.{statement}
@@ -14,7 +16,10 @@ unfolding objectiveAnswer
 returns c = let h = sym (c .before .before .is-refused .ensures) ∙ c .before .if1 .taken in rw (← c .before .before .before .part-check .ensures) (c .scalar-if .ensures ∙ no-scalar _ _ _ h)
 
 value-requires : tie.Need-value-requires
-value-requires c κs = let p = part-went _ _ _ _ _ _ (c .before .before .part-check .ensures) (sym (c .before .is-refused .ensures) ∙ c .if1 .left) in (p .0, omega (arith, p .1))
+value-requires c κs =
+    let a = c .before .before .before .before .before .args in
+    let p = part-went (a .n) (a .m) (a .k) (a .s) _ _ (c .before .before .part-check .ensures) (sym (c .before .is-refused .ensures) ∙ c .if1 .left) in
+    (p .0, omega (arith, p .1, nvar-number (networkOf (a .n) (a .m) (a .k) (a .s) (a .bytes .now))))
 
 returns-2 : tie.Need-returns-2
 unfolding objectiveAnswer
