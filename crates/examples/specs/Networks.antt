@@ -1,7 +1,9 @@
 -- The networks of the lettered examples, as records of 128 bytes.
-use Prim.Native.Nat.{ℕ, zero, suc, _+_, _*_}
+use Prim.Native.Nat.{ℕ, zero, suc, _+_, _*_, _%_}
 use mathlib.Core.List.{List, [], _∷_, _++_}
+use lib.Dec.{eqb}
 use lib.ListN.{replicate, set}
+use Rattle.lists.specs.UpTo.{bit, listed}
 
 -- bytes stored from a position on
 abbrev pub bytesAt : ℕ → List ℕ → List ℕ → List ℕ
@@ -55,3 +57,10 @@ wide = bytesAt 257 (3 ∷ []) (floatAt 2 9 (fπ 0x80) (floatAt 2 10 (fπ 0) q))
 -- K: "Tap 2, cosine 1, sine 0": Q with floats 6 and 7
 abbrev pub tapped : List ℕ
 tapped = floatAt 2 6 f2 (floatAt 2 7 f1 q)
+
+-- I: "n 4,096 with matching bytes": n bus records, each its kind and then zeros
+abbrev pub busByte : ℕ → ℕ
+busByte i = bit (eqb (i % 128) 0)
+
+unfoldable pub buses : ℕ → List ℕ
+buses n = listed (128 * n) busByte

@@ -1,6 +1,6 @@
 -- The lettered examples of document 01, in a single table: what the definitions give, and what the document says. Floats stand as their bits.
 use Prim.Native.Nat.{ℕ}
-use mathlib.Core.Bool.{Bool, false, _||_, cond}
+use mathlib.Core.Bool.{Bool, true, false, _||_, cond}
 use mathlib.Core.Path.{_≡_}
 use mathlib.Core.List.{List, [], _∷_, _++_, map}
 use lib.Dec.{eqb}
@@ -11,7 +11,7 @@ use Rattle.lists.specs.Entries.{Entry, sits}
 use Rattle.refusals.specs.Refusals.{checkedNumber, checkedValue}
 use Rattle.records.specs.AcNetwork.{AcNetwork}
 use Rattle.records.specs.Network.{networkOf}
-use Rattle.records.specs.Check.{countCause, checkOf}
+use Rattle.records.specs.Check.{checkOf}
 use Rattle.numbering.specs.Numbering.{nvar, ncon, coneLengths, columnNumber, columnKey, rowKey}
 use Rattle.numbering.specs.Lookups.{lookupNumber, lookupValue}
 use Rattle.lookups.specs.Lookups.{columnAsked, rowAsked}
@@ -26,7 +26,7 @@ use Rattle.interface.specs.declared.Parameter.the-variants.{Demand, SeriesAdmit
 use Rattle.interface.specs.declared.Power.the-variants.{Active, Reactive}
 use Rattle.interface.specs.declared.GB.the-variants.{Conductance}
 use Rattle.columns.specs.Jacobian.{jacobian}
-use Rattle.examples.specs.Networks.{q, unlimited, curve, bounded, wide, tapped}
+use Rattle.examples.specs.Networks.{q, unlimited, curve, bounded, wide, tapped, buses}
 
 abbrev pub Q : List ℕ → AcNetwork Float
 Q l = networkOf 2 1 1 0 l
@@ -50,22 +50,23 @@ abbrev pub bits : Float → ℕ
 bits v = toBits binary64 v
 
 -- the values at a place, in the list's order
-abbrev pub valuesAt : ℕ → ℕ → List Entry → List ℕ
+unfoldable pub valuesAt : ℕ → ℕ → List Entry → List ℕ
 valuesAt r c [] = []
 valuesAt r c (e ∷ es) = when (sits r c e) (bits (e .val) ∷ []) ++ valuesAt r c es
 
--- F: x all 0, "z 1 at rows 18 and 21"
-abbrev pub kktF : List Entry
-kktF = kkt (Q q) (listed 10 (λ c. float false)) (listed 28 (λ r. float (eqb r 18 || eqb r 21)))
-
--- what the definitions give, and what the document says
+-- what the definitions give, at an x and a z where these are open, and what the document says
 pub record Example : Type 0 where
-  pub computed : List ℕ
+  pub computed : List Float → List Float → List ℕ
   pub stated : List ℕ
 
 infix 10 _is_
 abbrev pub _is_ : List ℕ → List ℕ → Example
-xs is ys = record { computed = xs; stated = ys }
+xs is ys = record { computed = λ x z. xs; stated = ys }
+
+-- the same with x and z open: the claim is of every x and z
+infix 10 _always_
+abbrev pub _always_ : (List Float → List Float → List ℕ) → List ℕ → Example
+f always ys = record { computed = f; stated = ys }
 
 -- "Q: nvar 10, cones 8, 10, 4, 3, 3."
 unfoldable pub letterA : List Example
@@ -107,11 +108,18 @@ letterE =
     ∷ (ncon (P 0) ∷ [] is 12 ∷ [])
     ∷ []
 
+-- F: any x, and any z of 28 floats with "1 at rows 18 and 21"
+abbrev pub zF : List Float → List Float
+zF z = listed 28 (λ r. cond (eqb r 18 || eqb r 21) (float true) (getD z r nan))
+
+abbrev pub kktF : List Float → List Float → List Entry
+kktF x z = kkt (Q q) x (zF z)
+
 -- "Q, z 1 at rows 18 and 21: KKT row 28 has 0.5, 0.5 in column 2 and 0.5, -0.5 in column 3."
 unfoldable pub letterF : List Example
 letterF =
-    (valuesAt 28 2 kktF is 0x3fe0000000000000 ∷ 0x3fe0000000000000 ∷ [])
-    ∷ (valuesAt 28 3 kktF is 0x3fe0000000000000 ∷ 0xbfe0000000000000 ∷ [])
+    ((λ x z. valuesAt 28 2 (kktF x z)) always 0x3fe0000000000000 ∷ 0x3fe0000000000000 ∷ [])
+    ∷ ((λ x z. valuesAt 28 3 (kktF x z)) always 0x3fe0000000000000 ∷ 0xbfe0000000000000 ∷ [])
     ∷ []
 
 -- "vm_max 1.5, vm_min 0.5, active: b 2.25 and -0.25."
@@ -132,8 +140,8 @@ letterH =
 -- "n 4,096 with matching bytes passes check 1; n 4,097 is number 1."
 unfoldable pub letterI : List Example
 letterI =
-    (checkedNumber (countCause 4096 0 0 0) ∷ [] is 0 ∷ [])
-    ∷ (checked 4097 0 0 0 [] is 1 ∷ 0 ∷ [])
+    (checked 4096 0 0 0 (buses 4096) is 0 ∷ 0 ∷ [])
+    ∷ (checked 4097 0 0 0 (buses 4097) is 1 ∷ 0 ∷ [])
     ∷ []
 
 -- "Base 4: price by demand scale 0.0625."
@@ -163,7 +171,7 @@ unfoldable pub table : List (List Example)
 table = letterA ∷ letterB ∷ letterC ∷ letterD ∷ letterE ∷ letterF ∷ letterG ∷ letterH ∷ letterI ∷ letterJ ∷ letterK ∷ []
 
 abbrev pub Right : List Example → Type 0
-Right es = map (λ (e : Example). e .computed) es ≡ map (λ (e : Example). e .stated) es
+Right es = (x z : List Float) → map (λ (e : Example). e .computed x z) es ≡ map (λ (e : Example). e .stated) es
 
 abbrev pub AllRight : List (List Example) → Type 0
 AllRight [] = Unit {0}
