@@ -4,7 +4,7 @@ use lib.Ieee.{ofBits, toBits, neg, mul, div, add, sub, ne, eq, le, lt}
 use Rattle.lists.specs.UpTo.{upTo}
 use Rattle.refusals.specs.Refusals.{_orElse_, refuseUnless}
 use Rattle.records.specs.Bytes.{le16, le32, le64}
-use Rattle.records.specs.Fields.{kindOf, flagsOf, countOf, idOf, firstOf, secondOf, bitsOf, floatOf, bit0, bit1, gOf, bOf, gFrOf, bFrOf, gToOf, bToOf, tapOf, limitedOf, piecewiseOf, segmentsOf, angledOf}
+use Rattle.records.specs.Fields.{kindOf, flagsOf, countOf, idOf, firstOf, secondOf, bitsOf, floatOf, flagBit, gOf, bOf, gFrOf, bFrOf, gToOf, bToOf, tapOf, limitedOf, piecewiseOf, segmentsOf, angledOf}
 use Rattle.records.specs.Network.{branchOf, segmentRecord}
 use Rattle.records.specs.Check.{countCause, lengthCause, zeroFloats, busForm, branchForm, genForm, segmentForm, busCause, branchCause, genCause, segmentCause, pick, recordCause, recordCauses, countSum, sumCause, checkOf}
 use Rattle.lookups.specs.Lookups.{asked, columnAsked, rowAsked}
@@ -18,35 +18,35 @@ use Rattle.examples.specs.Networks.{q, curve}
 use Rattle.examples.specs.Table.{letterA, letterB, letterC, letterD, letterE, letterF, letterG, letterH, letterI, letterJ, letterK, table, Right, AllRight}
 
 rightA : Right letterA
-unfolding letterA q _orElse_ refuseUnless upTo le16 le32 le64 kindOf flagsOf countOf idOf firstOf secondOf bitsOf bit1 piecewiseOf pick zeroFloats countCause lengthCause busForm branchForm genForm segmentForm busCause branchCause genCause segmentCause recordCause recordCauses countSum sumCause checkOf bit0 limitedOf segmentsOf
+unfolding letterA q _orElse_ refuseUnless upTo le16 le32 le64 kindOf flagsOf countOf idOf firstOf secondOf bitsOf flagBit piecewiseOf pick zeroFloats countCause lengthCause busForm branchForm genForm segmentForm busCause branchCause genCause segmentCause recordCause recordCauses countSum sumCause checkOf limitedOf segmentsOf
 rightA = refl
 
 rightB : Right letterB
-unfolding letterB q _orElse_ refuseUnless upTo le16 le32 le64 kindOf flagsOf countOf idOf firstOf secondOf bitsOf bit1 piecewiseOf pick zeroFloats countCause lengthCause busForm branchForm genForm segmentForm busCause branchCause genCause segmentCause recordCause recordCauses countSum sumCause checkOf bit0 limitedOf segmentsOf
+unfolding letterB q _orElse_ refuseUnless upTo le16 le32 le64 kindOf flagsOf countOf idOf firstOf secondOf bitsOf flagBit piecewiseOf pick zeroFloats countCause lengthCause busForm branchForm genForm segmentForm busCause branchCause genCause segmentCause recordCause recordCauses countSum sumCause checkOf limitedOf segmentsOf
 rightB = refl
 
 rightC : Right letterC
-unfolding letterC _orElse_ refuseUnless upTo le16 le32 le64 kindOf flagsOf countOf idOf firstOf secondOf bitsOf bit1 piecewiseOf pick zeroFloats countCause lengthCause busForm branchForm genForm segmentForm busCause branchCause genCause segmentCause recordCause recordCauses countSum sumCause checkOf bit0 limitedOf segmentsOf
+unfolding letterC _orElse_ refuseUnless upTo le16 le32 le64 kindOf flagsOf countOf idOf firstOf secondOf bitsOf flagBit piecewiseOf pick zeroFloats countCause lengthCause busForm branchForm genForm segmentForm busCause branchCause genCause segmentCause recordCause recordCauses countSum sumCause checkOf limitedOf segmentsOf
 rightC = refl
 
 rightD : Right letterD
-unfolding letterD curve _orElse_ refuseUnless upTo le16 le32 le64 kindOf flagsOf countOf idOf firstOf secondOf bitsOf bit1 piecewiseOf pick zeroFloats countCause lengthCause busForm branchForm genForm segmentForm busCause branchCause genCause segmentCause recordCause recordCauses countSum sumCause checkOf bit0 limitedOf segmentsOf asked columnAsked rowAsked
+unfolding letterD curve _orElse_ refuseUnless upTo le16 le32 le64 kindOf flagsOf countOf idOf firstOf secondOf bitsOf flagBit piecewiseOf pick zeroFloats countCause lengthCause busForm branchForm genForm segmentForm busCause branchCause genCause segmentCause recordCause recordCauses countSum sumCause checkOf limitedOf segmentsOf asked columnAsked rowAsked
 rightD = refl
 
 rightE : Right letterE
-unfolding letterE curve _orElse_ refuseUnless upTo le16 le32 le64 kindOf flagsOf countOf idOf firstOf secondOf bitsOf bit1 piecewiseOf pick zeroFloats countCause lengthCause busForm branchForm genForm segmentForm busCause branchCause genCause segmentCause recordCause recordCauses countSum sumCause checkOf bit0 limitedOf segmentsOf asked columnAsked rowAsked
+unfolding letterE curve _orElse_ refuseUnless upTo le16 le32 le64 kindOf flagsOf countOf idOf firstOf secondOf bitsOf flagBit piecewiseOf pick zeroFloats countCause lengthCause busForm branchForm genForm segmentForm busCause branchCause genCause segmentCause recordCause recordCauses countSum sumCause checkOf limitedOf segmentsOf asked columnAsked rowAsked
 rightE = refl
 
 rightF : Right letterF
-unfolding letterF q upTo le16 le32 le64 flagsOf countOf firstOf secondOf bitsOf bit1 piecewiseOf bit0 limitedOf segmentsOf floatOf gOf bOf gFrOf bFrOf gToOf bToOf tapOf angledOf branchOf kept terms b ofBits toBits neg mul div add sub ne eq le lt segmentRecord quadratic sumOf slack kktOf kkt
+unfolding letterF q upTo le16 le32 le64 flagsOf countOf firstOf secondOf bitsOf flagBit piecewiseOf limitedOf segmentsOf floatOf gOf bOf gFrOf bFrOf gToOf bToOf tapOf angledOf branchOf kept terms b ofBits toBits neg mul div add sub ne eq le lt segmentRecord quadratic sumOf slack kktOf kkt
 rightF = refl
 
 rightG : Right letterG
-unfolding letterG _orElse_ refuseUnless upTo le16 le32 le64 kindOf flagsOf countOf idOf firstOf secondOf bitsOf bit1 piecewiseOf pick zeroFloats countCause lengthCause busForm branchForm genForm segmentForm busCause branchCause genCause segmentCause recordCause recordCauses countSum sumCause checkOf bit0 floatOf gOf bOf gFrOf bFrOf gToOf bToOf tapOf angledOf branchOf kept terms b ofBits toBits neg mul div add sub ne eq le lt
+unfolding letterG _orElse_ refuseUnless upTo le16 le32 le64 kindOf flagsOf countOf idOf firstOf secondOf bitsOf flagBit piecewiseOf pick zeroFloats countCause lengthCause busForm branchForm genForm segmentForm busCause branchCause genCause segmentCause recordCause recordCauses countSum sumCause checkOf floatOf gOf bOf gFrOf bFrOf gToOf bToOf tapOf angledOf branchOf kept terms b ofBits toBits neg mul div add sub ne eq le lt
 rightG = refl
 
 rightH : Right letterH
-unfolding letterH q _orElse_ refuseUnless upTo le16 le32 le64 kindOf flagsOf countOf idOf firstOf secondOf bitsOf bit1 piecewiseOf pick zeroFloats countCause lengthCause busForm branchForm genForm segmentForm busCause branchCause genCause segmentCause recordCause recordCauses countSum sumCause checkOf bit0 floatOf gOf bOf gFrOf bFrOf gToOf bToOf tapOf angledOf branchOf kept terms b ofBits toBits neg mul div add sub ne eq le lt
+unfolding letterH q _orElse_ refuseUnless upTo le16 le32 le64 kindOf flagsOf countOf idOf firstOf secondOf bitsOf flagBit piecewiseOf pick zeroFloats countCause lengthCause busForm branchForm genForm segmentForm busCause branchCause genCause segmentCause recordCause recordCauses countSum sumCause checkOf floatOf gOf bOf gFrOf bFrOf gToOf bToOf tapOf angledOf branchOf kept terms b ofBits toBits neg mul div add sub ne eq le lt
 rightH = refl
 
 rightI : Right letterI
@@ -58,7 +58,7 @@ unfolding letterJ ofBits toBits div
 rightJ = refl
 
 rightK : Right letterK
-unfolding letterK q _orElse_ refuseUnless upTo le16 le32 le64 kindOf flagsOf countOf idOf firstOf secondOf bitsOf bit1 piecewiseOf pick zeroFloats countCause lengthCause busForm branchForm genForm segmentForm busCause branchCause genCause segmentCause recordCause recordCauses countSum sumCause checkOf bit0 limitedOf segmentsOf floatOf tapOf branchOf storedAll inTurn stores jacobian ofBits toBits neg mul div add
+unfolding letterK q _orElse_ refuseUnless upTo le16 le32 le64 kindOf flagsOf countOf idOf firstOf secondOf bitsOf flagBit piecewiseOf pick zeroFloats countCause lengthCause busForm branchForm genForm segmentForm busCause branchCause genCause segmentCause recordCause recordCauses countSum sumCause checkOf limitedOf segmentsOf floatOf tapOf branchOf storedAll inTurn stores jacobian ofBits toBits neg mul div add
 rightK = refl
 
 pub lettered : AllRight table
