@@ -7,7 +7,7 @@ use native.Mathlib.Omega.{arith}
 use lib.Ieee.{binary64, mul}
 use Rattle.lists.specs.UpTo.{upTo, sum, bit, count}
 use Rattle.lists.specs.Entries.{Entry}
-use Rattle.lists.proofs.Sums.{sum-mono, sum-next}
+use Rattle.lists.proofs.Sums.{sum-next}
 use Rattle.numbering.specs.Blocks.{total}
 use Rattle.numbering.specs.Layout.{layoutColumns, layoutColumn}
 use Rattle.numbering.specs.Laid.{netOf, Laid}
@@ -26,9 +26,6 @@ pub ohm-same : {l : SocWrLayout} {bytes : List ℕ} {v : ℕ} {r : RowName} {o :
     → (v + o .row < 2 ^ 32) × (ohmAt (v + o .row) o ≡ plainRow (netOf l bytes) r)
 ohm-same {l} {bytes} {v} {r} {o} h e s =
     (omega (arith, small h, nvar-is h e, s .within), ap₂ (λ (a k : ℕ). ohmAt (a + k) o) (nvar-is h e) (s .number) ∙ sym (s .entries (kktRow (netOf l bytes) r)))
-
-pub segments-le : {l : SocWrLayout} {bytes : List ℕ} → Laid l bytes → (g : ℕ) → g ≤ l .k → sum g (netOf l bytes .segments) ≤ l .s
-segments-le {l} {bytes} h g d = omega (arith, sum-mono g (l .k) (netOf l bytes .segments) d, h .accepted .counts-add)
 
 -- counts over the records, one record more
 pub count-more : {i : ℕ} (n : ℕ) (p : ℕ → Bool) (j : ℕ) → i ≡ count n p → j ≡ bit (p n) → i + j ≡ count (n + 1) p

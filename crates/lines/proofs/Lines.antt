@@ -26,6 +26,7 @@ use Rattle.rows.specs.Rows.{term, terms, b, zero64, constant64, Constant, one, 
 use Rattle.rows.specs.Program.{thermalFrom, thermalTo}
 use Rattle.rows.proofs.Shape.{endTerms, jabr-first, jabr-last}
 use Rattle.records.proofs.Sound.{sound}
+use Rattle.records.proofs.Segments.{segments-fit}
 use Rattle.lines.specs.Line.{lineAt, Within, Stands, spot, line, single, ends, coneLine, ConeStands, thermal}
 use Rattle.lines.specs.declared.Cone.{Cone}
 use Rattle.lines.specs.declared.Line.{Line}
@@ -131,7 +132,7 @@ module _ (l : SocWrLayout) (bytes : List ℕ) (h : Laid l bytes) where
   pub segments-in : (g t segments curves : ℕ) → g < l .k → t < G .segments g → segments ≡ sum g (G .segments) → curves ≡ count g (G .piecewise)
       → (segments + t < l .s) × (curves ≤ l .k)
   segments-in g t segments curves d q hs hc =
-      (omega (arith, room g (l .k) (G .segments) d, h .accepted .counts-add), omega (arith, count-le g (G .piecewise)))
+      (omega (arith, segments-fit (h .accepted) g d), omega (arith, count-le g (G .piecewise)))
 
   pub segment-row : (g t segments base : ℕ) → base ≡ before (layoutRows l) 14 → segments ≡ sum g (G .segments) → base + (segments + t) ≡ rowNumber G (Segment g t)
   segment-row g t segments base hb hs = omega arith
