@@ -4,3 +4,4 @@ pub mod Laws
 pub mod Sound
 pub mod Passed
 pub mod Segments
+pub mod Order
