@@ -100,27 +100,35 @@ module _ (l : SocWrLayout) (bytes : List ℕ) (h : Laid l bytes) where
       go true false = refl
       go false q = refl
 
-  pub angub-stands : (e : ℕ) → e < l .m → Stands G (Angub e)
+  -- the same with any coefficient where the row is empty
+  kept-where : (c d : ColumnName) (v w : Float) (k : Constant) (on : Bool) → (on ≡ true → w ≡ v) → (r : ℕ) (f : Float → Float)
+      → map (λ t. entry r (columnNumber G (t .col)) (f (t .coef))) (when on (kept c v ++ (term d (constant64 k) ∷ [])))
+      ≡ lineAt r f (line 0 zero64 (spot (on && ne w zero64) (columnNumber G c) w) (spot on (columnNumber G d) (constant64 k)))
+  unfolding lineAt
+  kept-where c d v w k true e r f = rw (e refl) (kept-and c d v k true r f)
+  kept-where c d v w k false e r f = refl
+
+  pub angub-stands : (e : ℕ) (v : Float) → e < l .m → (angledOf bytes (l .n + e) ≡ true → v ≡ neg (tanAngmaxOf bytes (l .n + e))) → Stands G (Angub e)
       (line (layoutRow l (Angub e)) (cond (angledOf bytes (l .n + e)) zero64 (constant64 one))
-      (spot (angledOf bytes (l .n + e) && ne (neg (tanAngmaxOf bytes (l .n + e))) zero64) (layoutColumn l (Wr e)) (neg (tanAngmaxOf bytes (l .n + e)))) (spot (angledOf bytes (l .n + e)) (layoutColumn l (Wi e)) (constant64 one)))
+      (spot (angledOf bytes (l .n + e) && ne v zero64) (layoutColumn l (Wr e)) v) (spot (angledOf bytes (l .n + e)) (layoutColumn l (Wi e)) (constant64 one)))
   unfolding terms b lineAt
-  angub-stands e d =
+  angub-stands e v d q =
       record {
         number = refl;
         rhs = refl;
-        entries = λ r f. rw (written-when (angledOf bytes (l .n + e))) (kept-and (Wr e) (Wi e) (neg (tanAngmaxOf bytes (l .n + e))) one (angledOf bytes (l .n + e)) r f);
+        entries = λ r f. rw (written-when (angledOf bytes (l .n + e))) (kept-where (Wr e) (Wi e) (neg (tanAngmaxOf bytes (l .n + e))) v one (angledOf bytes (l .n + e)) q r f);
         within = record { row = omega arith; first = omega arith; second = omega arith };
       }
 
-  pub anglb-stands : (e : ℕ) → e < l .m → Stands G (Anglb e)
+  pub anglb-stands : (e : ℕ) (v : Float) → e < l .m → (angledOf bytes (l .n + e) ≡ true → v ≡ tanAngminOf bytes (l .n + e)) → Stands G (Anglb e)
       (line (layoutRow l (Anglb e)) (cond (angledOf bytes (l .n + e)) zero64 (constant64 one))
-      (spot (angledOf bytes (l .n + e) && ne (tanAngminOf bytes (l .n + e)) zero64) (layoutColumn l (Wr e)) (tanAngminOf bytes (l .n + e))) (spot (angledOf bytes (l .n + e)) (layoutColumn l (Wi e)) (constant64 minusOne)))
+      (spot (angledOf bytes (l .n + e) && ne v zero64) (layoutColumn l (Wr e)) v) (spot (angledOf bytes (l .n + e)) (layoutColumn l (Wi e)) (constant64 minusOne)))
   unfolding terms b lineAt
-  anglb-stands e d =
+  anglb-stands e v d q =
       record {
         number = refl;
         rhs = refl;
-        entries = λ r f. rw (written-when (angledOf bytes (l .n + e))) (kept-and (Wr e) (Wi e) (tanAngminOf bytes (l .n + e)) minusOne (angledOf bytes (l .n + e)) r f);
+        entries = λ r f. rw (written-when (angledOf bytes (l .n + e))) (kept-where (Wr e) (Wi e) (tanAngminOf bytes (l .n + e)) v minusOne (angledOf bytes (l .n + e)) q r f);
         within = record { row = omega arith; first = omega arith; second = omega arith };
       }
 
