@@ -6,3 +6,4 @@ pub mod Names
 pub mod Entered
 pub mod ConeLengths
 pub mod OnePass
+pub mod Order

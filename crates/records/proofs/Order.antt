@@ -72,8 +72,8 @@ module _ (n m k : ℕ) (b : List ℕ) where
   records-of zero = no-cause _ _ (by-turn (BadRecord 0) (BadRecord 0) refl (omega arith))
   records-of (suc r) = next (records-of r) (record-of r) (by-turn (BadRecord r) (BadRecord r) refl (omega arith))
 
-module _ (n m k s : ℕ) (b : List ℕ) where
-  abbrev counts : List Checked
+module _ (n m k s : ℕ) where
+  abbrev pub counts : List Checked
   counts =
       refuseUnless (leb n 4096) (CountTooLarge 0) ∷ refuseUnless (leb m 8192) (CountTooLarge 1)
       ∷ refuseUnless (leb k 4096) (CountTooLarge 2) ∷ refuseUnless (leb s 65536) (CountTooLarge 3) ∷ []
@@ -82,6 +82,7 @@ module _ (n m k s : ℕ) (b : List ℕ) where
   unfolding countCause sooner
   counts-of = next (alone _ _) (next (alone _ _) (next (alone _ _) (alone _ _) refl) refl) refl
 
+module _ (n m k s : ℕ) (b : List ℕ) where
   sum-of : InOrder (BadRecord (n + m + k + s)) (BadRecord (n + m + k + s)) (sumCause n m k s b ∷ []) (sumCause n m k s b)
   unfolding sumCause
   sum-of = alone _ _
@@ -91,15 +92,15 @@ module _ (n m k s : ℕ) (b : List ℕ) where
   length-of = alone _ _
 
   check-of : InOrder (CountTooLarge 0) (BadRecord (n + m + k + s))
-      (counts ++ (lengthCause (n + m + k + s) b ∷ (listed (n + m + k + s) (recordCause n m k b) ++ (sumCause n m k s b ∷ []))))
+      (counts n m k s ++ (lengthCause (n + m + k + s) b ∷ (listed (n + m + k + s) (recordCause n m k b) ++ (sumCause n m k s b ∷ []))))
       (checkOf n m k s b)
   unfolding checkOf sooner
   check-of =
-      next counts-of (next length-of (next (records-of n m k b (n + m + k + s)) sum-of (by-turn (BadRecord (n + m + k + s)) (BadRecord (n + m + k + s)) refl (omega arith))) refl) refl
+      next (counts-of n m k s) (next length-of (next (records-of n m k b (n + m + k + s)) sum-of (by-turn (BadRecord (n + m + k + s)) (BadRecord (n + m + k + s)) refl (omega arith))) refl) refl
 
   -- "Order: .. 1, 2; then record by record 3, 4, 5, lastly the sum"
   pub check-in-order : checkOf n m k s b
-      ≡ byOrder (counts ++ (lengthCause (n + m + k + s) b ∷ (listed (n + m + k + s) (recordCause n m k b) ++ (sumCause n m k s b ∷ []))))
+      ≡ byOrder (counts n m k s ++ (lengthCause (n + m + k + s) b ∷ (listed (n + m + k + s) (recordCause n m k b) ++ (sumCause n m k s b ∷ []))))
   check-in-order = in-order check-of
 
   -- the record check before others
