@@ -26,9 +26,6 @@ pub ohm-same : {l : SocWrLayout} {bytes : List ℕ} {v : ℕ} {r : RowName} {o :
 ohm-same {l} {bytes} {v} {r} {o} h e s =
     (omega (arith, small h, nvar-is h e, s .within), ap₂ (λ (a k : ℕ). ohmAt (a + k) o) (nvar-is h e) (s .number) ∙ sym (s .entries (kktRow (netOf l bytes) r)))
 
-pub segments-le : {l : SocWrLayout} {bytes : List ℕ} → Laid l bytes → (g : ℕ) → g ≤ l .k → sum g (netOf l bytes .segments) ≤ l .s
-segments-le {l} {bytes} h g d = omega (arith, sum-mono g (l .k) (netOf l bytes .segments) d, h .accepted .counts-add)
-
 -- counts over the records, one record more
 pub count-more : {i : ℕ} (n : ℕ) (p : ℕ → Bool) (j : ℕ) → i ≡ count n p → j ≡ bit (p n) → i + j ≡ count (n + 1) p
 count-more n p j e q = omega (arith, sum-next n (λ i. bit (p i)))

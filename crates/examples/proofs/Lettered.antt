@@ -7,7 +7,7 @@ use Rattle.refusals.specs.Refusals.{_orElse_, refuseUnless}
 use Rattle.refusals.specs.declared.Checked.the-variants.{Refused}
 use Rattle.refusals.specs.declared.Refusal.the-variants.{CountTooLarge}
 use Rattle.records.specs.Bytes.{le16, le32, le64}
-use Rattle.records.specs.Fields.{kindOf, flagsOf, countOf, idOf, firstOf, secondOf, bitsOf, floatOf, bit0, bit1, gOf, bOf, gFrOf, bFrOf, gToOf, bToOf, tapOf, limitedOf, piecewiseOf, segmentsOf, angledOf}
+use Rattle.records.specs.Fields.{kindOf, flagsOf, countOf, idOf, firstOf, secondOf, bitsOf, floatOf,, flagBit, gOf, bOf, gFrOf, bFrOf, gToOf, bToOf, tapOf, limitedOf, piecewiseOf, segmentsOf, angledOf}
 use Rattle.records.specs.Network.{branchOf}
 use Rattle.records.specs.Check.{countCause, lengthCause, zeroFloats, busForm, branchForm, genForm, segmentForm, busCause, branchCause, genCause, segmentCause, pick, recordCause, recordCauses, countSum, sumCause, checkOf}
 use Rattle.lookups.specs.Lookups.{asked, columnAsked, rowAsked}
@@ -21,23 +21,23 @@ use Rattle.examples.proofs.Buses.{accepted-buses}
 use Rattle.examples.proofs.Row28.{column2, column3}
 
 rightA : Right letterA
-unfolding letterA q _orElse_ refuseUnless upTo le16 le32 le64 kindOf flagsOf countOf idOf firstOf secondOf bitsOf bit1 piecewiseOf pick zeroFloats countCause lengthCause busForm branchForm genForm segmentForm busCause branchCause genCause segmentCause recordCause recordCauses countSum sumCause checkOf bit0 limitedOf segmentsOf
+unfolding letterA q _orElse_ refuseUnless upTo le16 le32 le64 kindOf flagsOf countOf idOf firstOf secondOf bitsOf flagBit piecewiseOf pick zeroFloats countCause lengthCause busForm branchForm genForm segmentForm busCause branchCause genCause segmentCause recordCause recordCauses countSum sumCause checkOf limitedOf segmentsOf
 rightA x z = refl
 
 rightB : Right letterB
-unfolding letterB q _orElse_ refuseUnless upTo le16 le32 le64 kindOf flagsOf countOf idOf firstOf secondOf bitsOf bit1 piecewiseOf pick zeroFloats countCause lengthCause busForm branchForm genForm segmentForm busCause branchCause genCause segmentCause recordCause recordCauses countSum sumCause checkOf bit0 limitedOf segmentsOf
+unfolding letterB q _orElse_ refuseUnless upTo le16 le32 le64 kindOf flagsOf countOf idOf firstOf secondOf bitsOf flagBit piecewiseOf pick zeroFloats countCause lengthCause busForm branchForm genForm segmentForm busCause branchCause genCause segmentCause recordCause recordCauses countSum sumCause checkOf limitedOf segmentsOf
 rightB x z = refl
 
 rightC : Right letterC
-unfolding letterC _orElse_ refuseUnless upTo le16 le32 le64 kindOf flagsOf countOf idOf firstOf secondOf bitsOf bit1 piecewiseOf pick zeroFloats countCause lengthCause busForm branchForm genForm segmentForm busCause branchCause genCause segmentCause recordCause recordCauses countSum sumCause checkOf bit0 limitedOf segmentsOf
+unfolding letterC _orElse_ refuseUnless upTo le16 le32 le64 kindOf flagsOf countOf idOf firstOf secondOf bitsOf flagBit piecewiseOf pick zeroFloats countCause lengthCause busForm branchForm genForm segmentForm busCause branchCause genCause segmentCause recordCause recordCauses countSum sumCause checkOf limitedOf segmentsOf
 rightC x z = refl
 
 rightD : Right letterD
-unfolding letterD curve _orElse_ refuseUnless upTo le16 le32 le64 kindOf flagsOf countOf idOf firstOf secondOf bitsOf bit1 piecewiseOf pick zeroFloats countCause lengthCause busForm branchForm genForm segmentForm busCause branchCause genCause segmentCause recordCause recordCauses countSum sumCause checkOf bit0 limitedOf segmentsOf asked columnAsked rowAsked
+unfolding letterD curve _orElse_ refuseUnless upTo le16 le32 le64 kindOf flagsOf countOf idOf firstOf secondOf bitsOf flagBit piecewiseOf pick zeroFloats countCause lengthCause busForm branchForm genForm segmentForm busCause branchCause genCause segmentCause recordCause recordCauses countSum sumCause checkOf limitedOf segmentsOf asked columnAsked rowAsked
 rightD x z = refl
 
 rightE : Right letterE
-unfolding letterE curve _orElse_ refuseUnless upTo le16 le32 le64 kindOf flagsOf countOf idOf firstOf secondOf bitsOf bit1 piecewiseOf pick zeroFloats countCause lengthCause busForm branchForm genForm segmentForm busCause branchCause genCause segmentCause recordCause recordCauses countSum sumCause checkOf bit0 limitedOf segmentsOf asked columnAsked rowAsked
+unfolding letterE curve _orElse_ refuseUnless upTo le16 le32 le64 kindOf flagsOf countOf idOf firstOf secondOf bitsOf flagBit piecewiseOf pick zeroFloats countCause lengthCause busForm branchForm genForm segmentForm busCause branchCause genCause segmentCause recordCause recordCauses countSum sumCause checkOf limitedOf segmentsOf asked columnAsked rowAsked
 rightE x z = refl
 
 -- x and z are open: by the laws of row 28
@@ -46,11 +46,11 @@ unfolding letterF
 rightF x z = cc (column2 x z, column3 x z)
 
 rightG : Right letterG
-unfolding letterG _orElse_ refuseUnless upTo le16 le32 le64 kindOf flagsOf countOf idOf firstOf secondOf bitsOf bit1 piecewiseOf pick zeroFloats countCause lengthCause busForm branchForm genForm segmentForm busCause branchCause genCause segmentCause recordCause recordCauses countSum sumCause checkOf bit0 floatOf gOf bOf gFrOf bFrOf gToOf bToOf tapOf angledOf branchOf kept terms b ofBits toBits neg mul div add sub ne eq le lt
+unfolding letterG _orElse_ refuseUnless upTo le16 le32 le64 kindOf flagsOf countOf idOf firstOf secondOf bitsOf flagBit piecewiseOf pick zeroFloats countCause lengthCause busForm branchForm genForm segmentForm busCause branchCause genCause segmentCause recordCause recordCauses countSum sumCause checkOf floatOf gOf bOf gFrOf bFrOf gToOf bToOf tapOf angledOf branchOf kept terms b ofBits toBits neg mul div add sub ne eq le lt
 rightG x z = refl
 
 rightH : Right letterH
-unfolding letterH q _orElse_ refuseUnless upTo le16 le32 le64 kindOf flagsOf countOf idOf firstOf secondOf bitsOf bit1 piecewiseOf pick zeroFloats countCause lengthCause busForm branchForm genForm segmentForm busCause branchCause genCause segmentCause recordCause recordCauses countSum sumCause checkOf bit0 floatOf gOf bOf gFrOf bFrOf gToOf bToOf tapOf angledOf branchOf kept terms b ofBits toBits neg mul div add sub ne eq le lt
+unfolding letterH q _orElse_ refuseUnless upTo le16 le32 le64 kindOf flagsOf countOf idOf firstOf secondOf bitsOf flagBit piecewiseOf pick zeroFloats countCause lengthCause busForm branchForm genForm segmentForm busCause branchCause genCause segmentCause recordCause recordCauses countSum sumCause checkOf floatOf gOf bOf gFrOf bFrOf gToOf bToOf tapOf angledOf branchOf kept terms b ofBits toBits neg mul div add sub ne eq le lt
 rightH x z = refl
 
 -- the count is refused before the bytes are looked at
@@ -68,7 +68,7 @@ unfolding letterJ ofBits toBits div
 rightJ x z = refl
 
 rightK : Right letterK
-unfolding letterK q _orElse_ refuseUnless upTo le16 le32 le64 kindOf flagsOf countOf idOf firstOf secondOf bitsOf bit1 piecewiseOf pick zeroFloats countCause lengthCause busForm branchForm genForm segmentForm busCause branchCause genCause segmentCause recordCause recordCauses countSum sumCause checkOf bit0 limitedOf segmentsOf floatOf tapOf branchOf storedAll inTurn stores jacobian ofBits toBits neg mul div add
+unfolding letterK q _orElse_ refuseUnless upTo le16 le32 le64 kindOf flagsOf countOf idOf firstOf secondOf bitsOf flagBit piecewiseOf pick zeroFloats countCause lengthCause busForm branchForm genForm segmentForm busCause branchCause genCause segmentCause recordCause recordCauses countSum sumCause checkOf limitedOf segmentsOf floatOf tapOf branchOf storedAll inTurn stores jacobian ofBits toBits neg mul div add
 rightK x z = refl
 
 pub lettered : AllRight table

@@ -12,7 +12,7 @@ use lib.Ieee.{Float, nan, ofBits, toBits, neg, mul, div, add, sub, ne, eq, le, l
 use Rattle.lists.specs.UpTo.{upTo, each, when, bit}
 use Rattle.lists.specs.Entries.{Entry, entry, sits, times}
 use Rattle.records.specs.Bytes.{le16, le32, le64}
-use Rattle.records.specs.Fields.{flagsOf, countOf, firstOf, secondOf, bitsOf, floatOf, bit0, bit1, gOf, bOf, gFrOf, bFrOf, gToOf, bToOf, tapOf, limitedOf, piecewiseOf, segmentsOf, angledOf}
+use Rattle.records.specs.Fields.{flagsOf, countOf, firstOf, secondOf, bitsOf, floatOf,, flagBit, gOf, bOf, gFrOf, bFrOf, gToOf, bToOf, tapOf, limitedOf, piecewiseOf, segmentsOf, angledOf}
 use Rattle.records.specs.AcNetwork.{AcNetwork}
 use Rattle.records.specs.Network.{branchOf, segmentRecord}
 use Rattle.numbering.specs.Numbering.{nvar, columnNumber, rowNumber}
@@ -69,15 +69,15 @@ abbrev G : AcNetwork Float
 G = Q q
 
 columns : nvar G ≡ 10
-unfolding q upTo le16 le32 flagsOf countOf bit1 piecewiseOf segmentsOf
+unfolding q upTo le16 le32 flagsOf countOf flagBit piecewiseOf segmentsOf
 columns = refl
 
 jabr : (l : ℕ) → rowNumber G (Jabr 0 l) ≡ 18 + l
-unfolding q upTo le16 le32 flagsOf countOf bit1 piecewiseOf segmentsOf
+unfolding q upTo le16 le32 flagsOf countOf flagBit piecewiseOf segmentsOf
 jabr l = omega arith
 
 thermal : (l : ℕ) → rowNumber G (Thermal 0 l) ≡ 22 + l
-unfolding q upTo le16 le32 flagsOf countOf bit0 bit1 limitedOf piecewiseOf segmentsOf
+unfolding q upTo le16 le32 flagsOf countOf flagBit limitedOf piecewiseOf segmentsOf
 thermal l = omega arith
 
 -- ---- KKT row 28, at any slacks and duals
@@ -87,7 +87,7 @@ module _ (s z : RowName → Float) (c : ℕ) where
   other d p x num j h = none-named 28 c _ (gone G s z d p x num 28 c j (λ e. h (omega (arith, num j, columns))))
 
   cones-only : valuesAt 28 c (kktOf G s z) ≡ valuesAt 28 c (secondOrder G (coneBlock G s z))
-  unfolding q upTo le16 le32 le64 flagsOf countOf firstOf secondOf bitsOf bit1 piecewiseOf bit0 limitedOf segmentsOf floatOf gOf bOf gFrOf bFrOf gToOf bToOf tapOf angledOf branchOf
+  unfolding q upTo le16 le32 le64 flagsOf countOf firstOf secondOf bitsOf flagBit piecewiseOf limitedOf segmentsOf floatOf gOf bOf gFrOf bFrOf gToOf bToOf tapOf angledOf branchOf
       kept terms ofBits neg mul div add sub ne eq le lt segmentRecord quadratic kktOf valuesAt
   cones-only = refl
 
@@ -145,11 +145,11 @@ module _ (x z : List Float) where
   in-F c h = row28 (slack G x) duals c h
 
   found2 : found 2 ≡ 0x3fe0000000000000 ∷ 0x3fe0000000000000 ∷ []
-  unfolding q upTo le16 le32 le64 flagsOf countOf firstOf secondOf bitsOf bit1 piecewiseOf segmentsOf floatOf terms ofBits toBits neg mul ne eq valuesAt
+  unfolding q upTo le16 le32 le64 flagsOf countOf firstOf secondOf bitsOf flagBit piecewiseOf segmentsOf floatOf terms ofBits toBits neg mul ne eq valuesAt
   found2 = refl
 
   found3 : found 3 ≡ 0x3fe0000000000000 ∷ 0xbfe0000000000000 ∷ []
-  unfolding q upTo le16 le32 le64 flagsOf countOf firstOf secondOf bitsOf bit1 piecewiseOf segmentsOf floatOf terms ofBits toBits neg mul ne eq valuesAt
+  unfolding q upTo le16 le32 le64 flagsOf countOf firstOf secondOf bitsOf flagBit piecewiseOf segmentsOf floatOf terms ofBits toBits neg mul ne eq valuesAt
   found3 = refl
 
   pub column2 : valuesAt 28 2 (kktF x z) ≡ 0x3fe0000000000000 ∷ 0x3fe0000000000000 ∷ []

@@ -26,6 +26,7 @@ use Rattle.rows.specs.Rows.{term, terms, b, zero64, constant64, Constant, one, 
 use Rattle.rows.specs.Program.{thermalFrom, thermalTo}
 use Rattle.rows.proofs.Shape.{written-when, endTerms, jabr-first, jabr-last}
 use Rattle.records.proofs.Sound.{sound}
+use Rattle.records.proofs.Segments.{segments-fit}
 use Rattle.lines.specs.Line.{lineAt, Within, Stands, spot, line, single, ends, coneLine, ConeStands, thermal}
 use Rattle.lines.specs.declared.Cone.{Cone}
 use Rattle.lines.specs.declared.Line.{Line}
@@ -96,36 +97,44 @@ module _ (l : SocWrLayout) (bytes : List ℕ) (h : Laid l bytes) where
       go true false = refl
       go false q = refl
 
+  -- the same with any coefficient where the row is empty
+  kept-where : (c d : ColumnName) (v w : Float) (k : Constant) (on : Bool) → (on ≡ true → w ≡ v) → (r : ℕ) (f : Float → Float)
+      → map (λ t. entry r (columnNumber G (t .col)) (f (t .coef))) (when on (kept c v ++ (term d (constant64 k) ∷ [])))
+      ≡ lineAt r f (line 0 zero64 (spot (on && ne w zero64) (columnNumber G c) w) (spot on (columnNumber G d) (constant64 k)))
+  unfolding lineAt
+  kept-where c d v w k true e r f = rw (e refl) (kept-and c d v k true r f)
+  kept-where c d v w k false e r f = refl
+
   -- a row of such two terms, which it has where the test holds
-  two-terms : (x : RowName) (c d : ColumnName) (v : Float) (k : Constant) (on : Bool) (w : Float) {row col next : ℕ}
+  two-terms : (x : RowName) (c d : ColumnName) (u v : Float) (k : Constant) (on : Bool) (w : Float) {row col next : ℕ} → (on ≡ true → v ≡ u)
       → row ≡ rowNumber G x → col ≡ columnNumber G c → next ≡ columnNumber G d
-      → ((r : ℕ) (f : Float → Float) → map (λ t. entry r (columnNumber G (t .col)) (f (t .coef))) (terms G x) ≡ map (λ t. entry r (columnNumber G (t .col)) (f (t .coef))) (when on (kept c v ++ (term d (constant64 k) ∷ []))))
+      → ((r : ℕ) (f : Float → Float) → map (λ t. entry r (columnNumber G (t .col)) (f (t .coef))) (terms G x) ≡ map (λ t. entry r (columnNumber G (t .col)) (f (t .coef))) (when on (kept c u ++ (term d (constant64 k) ∷ []))))
       → w ≡ b G x → HasRow G x → HasColumn G c → HasColumn G d
       → Stands G x (line row w (spot (on && ne v zero64) col v) (spot on next (constant64 k)))
   unfolding lineAt
-  two-terms x c d v k on w hr hc hd e p dr dc dd =
+  two-terms x c d u v k on w q hr hc hd e p dr dc dd =
       rw (hr, hc, hd)
       (record {
         number = refl;
         rhs = p;
-        entries = λ r f. e r f ∙ kept-and c d v k on r f;
+        entries = λ r f. e r f ∙ kept-where c d u v k on q r f;
         within = record { row = row-below G x dr; first = column-below G c dc; second = column-below G d dd };
       })
 
-  pub angub-stands : (e : ℕ) → e < l .m → Stands G (Angub e)
+  pub angub-stands : (e : ℕ) (v : Float) → e < l .m → (angledOf bytes (l .n + e) ≡ true → v ≡ neg (tanAngmaxOf bytes (l .n + e))) → Stands G (Angub e)
       (line (layoutRow l (Angub e)) (cond (angledOf bytes (l .n + e)) zero64 (constant64 one))
-      (spot (angledOf bytes (l .n + e) && ne (neg (tanAngmaxOf bytes (l .n + e))) zero64) (layoutColumn l (Wr e)) (neg (tanAngmaxOf bytes (l .n + e)))) (spot (angledOf bytes (l .n + e)) (layoutColumn l (Wi e)) (constant64 one)))
+      (spot (angledOf bytes (l .n + e) && ne v zero64) (layoutColumn l (Wr e)) v) (spot (angledOf bytes (l .n + e)) (layoutColumn l (Wi e)) (constant64 one)))
   unfolding terms b
-  angub-stands e d =
-      two-terms (Angub e) (Wr e) (Wi e) _ one (angledOf bytes (l .n + e)) _ (laid-row l bytes h (Angub e) refl) (laid-column l bytes h (Wr e) refl) (laid-column l bytes h (Wi e) refl)
+  angub-stands e v d q =
+      two-terms (Angub e) (Wr e) (Wi e) _ v one (angledOf bytes (l .n + e)) _ q (laid-row l bytes h (Angub e) refl) (laid-column l bytes h (Wr e) refl) (laid-column l bytes h (Wi e) refl)
       (λ r f. rw written-when) refl d d d
 
-  pub anglb-stands : (e : ℕ) → e < l .m → Stands G (Anglb e)
+  pub anglb-stands : (e : ℕ) (v : Float) → e < l .m → (angledOf bytes (l .n + e) ≡ true → v ≡ tanAngminOf bytes (l .n + e)) → Stands G (Anglb e)
       (line (layoutRow l (Anglb e)) (cond (angledOf bytes (l .n + e)) zero64 (constant64 one))
-      (spot (angledOf bytes (l .n + e) && ne (tanAngminOf bytes (l .n + e)) zero64) (layoutColumn l (Wr e)) (tanAngminOf bytes (l .n + e))) (spot (angledOf bytes (l .n + e)) (layoutColumn l (Wi e)) (constant64 minusOne)))
+      (spot (angledOf bytes (l .n + e) && ne v zero64) (layoutColumn l (Wr e)) v) (spot (angledOf bytes (l .n + e)) (layoutColumn l (Wi e)) (constant64 minusOne)))
   unfolding terms b
-  anglb-stands e d =
-      two-terms (Anglb e) (Wr e) (Wi e) _ minusOne (angledOf bytes (l .n + e)) _ (laid-row l bytes h (Anglb e) refl) (laid-column l bytes h (Wr e) refl) (laid-column l bytes h (Wi e) refl)
+  anglb-stands e v d q =
+      two-terms (Anglb e) (Wr e) (Wi e) _ v minusOne (angledOf bytes (l .n + e)) _ q (laid-row l bytes h (Anglb e) refl) (laid-column l bytes h (Wr e) refl) (laid-column l bytes h (Wi e) refl)
       (λ r f. rw written-when) refl d d d
 
   -- of the records before k, those of g with what follows are not more than all
@@ -134,7 +143,7 @@ module _ (l : SocWrLayout) (bytes : List ℕ) (h : Laid l bytes) where
 
   -- the segments, cost columns and limited branches before a record are not more than the layout has
   pub segments-in : (g t segments : ℕ) → g < l .k → t < G .segments g → segments ≡ sum g (G .segments) → segments + t < l .s
-  segments-in g t segments d q hs = omega (arith, room g (l .k) (G .segments) d, h .accepted .counts-add)
+  segments-in g t segments d q hs = omega (arith, segments-fit (h .accepted) g d)
 
   pub curves-in : (g curves : ℕ) → g < l .k → curves ≡ count g (G .piecewise) → curves ≤ l .«cost_columns»
   curves-in g curves d hc = omega (arith, room g (l .k) (λ j. bit (G .piecewise j)) d, curves-are l bytes h)
@@ -148,7 +157,7 @@ module _ (l : SocWrLayout) (bytes : List ℕ) (h : Laid l bytes) where
       (line row (neg (G .intercept g t)) (spot (ne (G .slope g t) zero64) (layoutColumn l (Pg g)) (G .slope g t)) (spot true col (constant64 minusOne)))
   unfolding terms b
   segment-stands g t row col d q hr hc =
-      two-terms (Segment g t) (Pg g) (CostOf g) (G .slope g t) minusOne true _ (hr ∙ laid-segment l bytes h g t) (laid-column l bytes h (Pg g) refl) (hc ∙ laid-cost l bytes h g)
+      two-terms (Segment g t) (Pg g) (CostOf g) (G .slope g t) _ minusOne true _ (λ e. refl) (hr ∙ laid-segment l bytes h g t) (laid-column l bytes h (Pg g) refl) (hc ∙ laid-cost l bytes h g)
       (λ r f. refl) refl (d, q) d (d, sound (l .n) (l .m) (l .k) (l .s) bytes (h .accepted) .pieces g t d q)
 
   -- ---- cones

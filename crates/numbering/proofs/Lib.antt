@@ -9,3 +9,4 @@ pub mod Entered
 pub mod ConeLengths
 pub mod OnePass
 pub mod Tables
+pub mod Order

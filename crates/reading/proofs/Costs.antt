@@ -1,5 +1,5 @@
 -- Laws of the costs. Assumes nothing.
-use Prim.Native.Nat.{ℕ, _+_, _≤_, _<_}
+use Prim.Native.Nat.{ℕ, _+_}
 use mathlib.Core.Path.{_≡_, refl, sym, _∙_, ap, ap₂, subst}
 use mathlib.Core.Bool.{Bool, true, false, cond, _||_}
 use mathlib.Core.List.{List}
@@ -8,13 +8,13 @@ use lib.Dec.{T}
 use lib.ListN.{getD}
 use lib.Ieee.{Float, nan, inf, fin, binary64, ofBits, neg, add, div, lt, ne, isNan}
 use lib.Ieee.Compare.{differs-from-itself, nan-differs}
-use Rattle.lists.specs.UpTo.{upTo, sum as addUp}
-use Rattle.lists.proofs.Sums.{sum-next, sum-mono}
+use Rattle.lists.specs.UpTo.{upTo}
 use Rattle.lists.proofs.UpTo.{upTo-more}
 use Rattle.reading.specs.Cost.{max, line, parabola, highest, generatorCost, totalCost}
 use Rattle.records.specs.AcNetwork.{AcNetwork}
 use Rattle.records.specs.Fields.{segmentsOf, piecewiseOf, slopeOf, interceptOf, cqOf, clOf, ccOf}
-use Rattle.records.specs.Network.{Accepted, networkOf, segmentRecord}
+use Rattle.records.specs.Network.{networkOf, segmentsBefore, segmentRecord}
+use Rattle.records.proofs.Segments.{segment-record}
 use Rattle.numbering.specs.Numbering.{columnNumber}
 use Rattle.numbering.specs.declared.ColumnName.the-variants.{Pg}
 use Rattle.numbering.proofs.Numbers.{numbers}
@@ -63,23 +63,20 @@ unfolding totalCost
 total-all G x = refl
 
 module _ (n m k s : ℕ) (b : List ℕ) where
-  -- the segments of the generators before g, and of g too, are within the records
-  pub segments-fit : Accepted n m k s b → (g : ℕ) → g < k → addUp g (λ i. segmentsOf b (n + m + i)) + segmentsOf b (n + m + g) ≤ s
-  segments-fit a g h = omega (arith, sum-next g (λ i. segmentsOf b (n + m + i)), sum-mono (g + 1) k (λ i. segmentsOf b (n + m + i)) (omega arith), a .counts-add)
-
   -- a generator's cost by its record and that of its first segment
   abbrev pub costAt : ℕ → ℕ → ℕ → Float → Float
   costAt r first count x =
       cond (piecewiseOf b r) (highest (λ t. slopeOf b (first + t)) (λ t. interceptOf b (first + t)) count x) (parabola (cqOf b r) (clOf b r) (ccOf b r) x)
 
   pub total-more : (x : List Float) (g first count : ℕ) (sum v : Float)
-      → first ≡ n + m + k + addUp g (λ i. segmentsOf b (n + m + i)) → count ≡ segmentsOf b (n + m + g)
+      → first ≡ n + m + k + segmentsBefore n m b g → count ≡ segmentsOf b (n + m + g)
       → sum ≡ total-so-far (networkOf n m k s b) x g → v ≡ costAt (n + m + g) first count (getD x g nan)
       → add binary64 sum v ≡ total-so-far (networkOf n m k s b) x (g + 1)
-  unfolding generatorCost segmentRecord
+  unfolding generatorCost
   total-more x g first count sum v e f h w =
       let at : g ≡ columnNumber (networkOf n m k s b) (Pg g) = simp numbers (omega arith) in
+      let there : (t : ℕ) → first + t ≡ segmentRecord n m k b g t = λ t. segment-record n m k b g t e in
       let cost : v ≡ generatorCost (networkOf n m k s b) g (getD x (columnNumber (networkOf n m k s b) (Pg g)) nan)
-      = w ∙ rw (e, f) (ap (λ (i : ℕ). generatorCost (networkOf n m k s b) g (getD x i nan)) at) in
+      = w ∙ simp (there, f) (ap (λ (i : ℕ). generatorCost (networkOf n m k s b) g (getD x i nan)) at) in
       ap₂ (add binary64) h cost
       ∙ sym (upTo-more (add binary64) (neg zero64) (λ g. generatorCost (networkOf n m k s b) g (getD x (columnNumber (networkOf n m k s b) (Pg g)) nan)) g)

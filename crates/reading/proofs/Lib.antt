@@ -1,3 +1,4 @@
 pub mod Costs
 pub mod Halves
 pub mod Readings
+pub mod Order

@@ -1,6 +1,6 @@
 -- The code's cells are the columns' cells. Assumes nothing.
 use Prim.Native.Nat.{ℕ, _+_, _*_, _≤_, _<_}
-use mathlib.Core.Path.{_≡_, refl, ap}
+use mathlib.Core.Path.{_≡_, refl, ap, ap₂}
 use mathlib.Core.Bool.{Bool, true, false}
 use mathlib.Core.List.{List, [], _∷_}
 use native.Mathlib.Omega.{arith}
@@ -9,10 +9,10 @@ use lib.Ieee.{Float}
 use Rattle.lists.specs.UpTo.{each, when, sum, bit, count}
 use Rattle.lists.specs.Compressed.{CellOut}
 use Rattle.lists.proofs.Each.{each-ext}
-use Rattle.lists.proofs.Sums.{sum-mono, sum-next, bit-le}
+use Rattle.lists.proofs.Sums.{bit-le}
 use Rattle.records.specs.AcNetwork.{AcNetwork}
 use Rattle.records.specs.Fields.{slopeOf}
-use Rattle.records.specs.Network.{segmentRecord}
+use Rattle.records.proofs.Segments.{segment-record}
 use Rattle.numbering.specs.Blocks.{before}
 use Rattle.numbering.specs.Layout.{layoutRows}
 use Rattle.numbering.specs.Numbering.{rowNumber}
@@ -40,12 +40,12 @@ module _ (l : SocWrLayout) (bytes : List ℕ) where
   -- a generator's segments start behind those of the generators before it
   pub slopes-are : (g : ℕ) {first row n : ℕ} → first ≡ l .n + l .m + l .k + sum g (G .segments) → row ≡ before (layoutRows l) 14 + sum g (G .segments) → n ≡ G .segments g
       → each n (slopes bytes first row) ≡ each (G .segments g) (slopeCell G g)
-  unfolding slopes slopeCell segmentRecord
+  unfolding slopes slopeCell
   slopes-are g p q e =
-      rw (p, q, e) (each-ext _ _ (G .segments g)
+      rw (q, e) (each-ext _ _ (G .segments g)
       (λ t h.
       let r : before (layoutRows l) 14 + sum g (G .segments) + t ≡ rowNumber G (Segment g t) = omega arith in
-      ap (λ (x : ℕ). nonzeroCell x (slopeOf bytes (l .n + l .m + l .k + sum g (G .segments) + t))) r))
+      ap₂ (λ (x y : ℕ). nonzeroCell x (slopeOf bytes y)) r (segment-record (l .n) (l .m) (l .k) bytes g t p)))
 
   pub costs-are : (g : ℕ) {row n : ℕ} → row ≡ before (layoutRows l) 14 + sum g (G .segments) → n ≡ G .segments g → each n (ones row) ≡ costCells G g
   unfolding ones costCells costCell
@@ -77,12 +77,5 @@ module _ (l : SocWrLayout) (bytes : List ℕ) where
   wi-are e p q = rw (p, q)
 
   module _ (laid : Laid l bytes) where
-    -- the segments up to a generator's are among all
-    pub segments-below : (g : ℕ) → g ≤ l .k → sum g (G .segments) ≤ l .s
-    segments-below g h = omega (arith, sum-mono g (l .k) (G .segments) h, laid .accepted .counts-add)
-
-    pub segments-next : (g : ℕ) → g < l .k → sum g (G .segments) + G .segments g ≤ l .s
-    segments-next g h = omega (arith, segments-below (g + 1) (omega arith), sum-next g (G .segments))
-
     pub thermal-row : (e q : ℕ) → before (layoutRows l) 16 + 6 * count e (G .limited) + q ≡ rowNumber G (Thermal e q)
     thermal-row e q = omega (arith, laid .accepted .counts-add)

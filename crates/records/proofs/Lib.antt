@@ -3,3 +3,5 @@ pub mod Causes
 pub mod Laws
 pub mod Sound
 pub mod Passed
+pub mod Segments
+pub mod Order

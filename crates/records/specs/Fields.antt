@@ -1,6 +1,6 @@
 -- The fields of a record of 128 bytes (document 01, 'Forms that must change shape', first point). b is the slice, r the record,
 -- counted from 0 over all kinds: buses, branches, generators, segments.
-use Prim.Native.Nat.{ℕ, _+_, _*_, _/_, _%_}
+use Prim.Native.Nat.{ℕ, _+_, _*_, _/_, _%_, _^_}
 use mathlib.Core.Bool.{Bool, not, _&&_, cond}
 use mathlib.Core.List.{List}
 use lib.Dec.{eqb}
@@ -35,16 +35,13 @@ bitsOf b r j = le64 b (128 * r + 16 + 8 * j)
 unfoldable pub floatOf : List ℕ → ℕ → ℕ → Float
 floatOf b r j = ofBits binary64 (bitsOf b r j)
 
--- flag bits 0 and 1
-unfoldable pub bit0 : List ℕ → ℕ → Bool
-bit0 b r = eqb (flagsOf b r % 2) 1
-
-unfoldable pub bit1 : List ℕ → ℕ → Bool
-bit1 b r = eqb (flagsOf b r / 2 % 2) 1
+-- "flag bit 0", "bit 1": flag bit j
+unfoldable pub flagBit : List ℕ → ℕ → ℕ → Bool
+flagBit b r j = eqb (flagsOf b r / 2 ^ j % 2) 1
 
 -- ---- "bus: id; flag bit 0 voltage bound active; floats gs, bs, pd, qd, vm_min, vm_max."
 abbrev pub voltageBoundOf : List ℕ → ℕ → Bool
-voltageBoundOf b r = bit0 b r
+voltageBoundOf b r = flagBit b r 0
 
 abbrev pub gsOf : List ℕ → ℕ → Float
 gsOf b r = floatOf b r 0
@@ -67,10 +64,10 @@ vmMaxOf b r = floatOf b r 5
 -- ---- "branch: id; flag bit 0 thermal limit active, bit 1 angle bound active; from bus, to bus; floats g, b, g_fr, b_fr, g_to, b_to,
 -- tap, cosine and sine of shift, angmin, angmax, tangent of angmin, tangent of angmax, rate_a."
 unfoldable pub limitedOf : List ℕ → ℕ → Bool
-limitedOf b r = bit0 b r
+limitedOf b r = flagBit b r 0
 
 abbrev pub angleBoundOf : List ℕ → ℕ → Bool
-angleBoundOf b r = bit1 b r
+angleBoundOf b r = flagBit b r 1
 
 abbrev pub fromOf : List ℕ → ℕ → ℕ
 fromOf b r = firstOf b r
@@ -130,10 +127,10 @@ angledOf b r = angleBoundOf b r && not (le (angminOf b r) (neg π64) && le π64 
 -- ---- "generator: id; flag bit 0 capability active, bit 1 piecewise cost; count of its segments (zero without bit 1; zero allowed with
 -- it); first number its bus; floats pmin, pmax, qmin, qmax, cq, cl, cc."
 abbrev pub capabilityOf : List ℕ → ℕ → Bool
-capabilityOf b r = bit0 b r
+capabilityOf b r = flagBit b r 0
 
 unfoldable pub piecewiseOf : List ℕ → ℕ → Bool
-piecewiseOf b r = bit1 b r
+piecewiseOf b r = flagBit b r 1
 
 -- the segments of a generator's cost: its count if the cost is piecewise, else none
 unfoldable pub segmentsOf : List ℕ → ℕ → ℕ

@@ -25,9 +25,12 @@ branchOf b r =
       tm2 = mul binary64 (tapOf b r) (tapOf b r);
     }
 
--- "Segments follow in generator order": the record of segment t of generator g
+-- "Segments follow in generator order": how many belong to the generators before g, and the record of segment t of generator g
+abbrev pub segmentsBefore : (n m : ℕ) → List ℕ → ℕ → ℕ
+segmentsBefore n m b g = sum g (λ i. segmentsOf b (n + m + i))
+
 unfoldable pub segmentRecord : (n m k : ℕ) → List ℕ → ℕ → ℕ → ℕ
-segmentRecord n m k b g t = n + m + k + sum g (λ i. segmentsOf b (n + m + i)) + t
+segmentRecord n m k b g t = n + m + k + segmentsBefore n m b g + t
 
 abbrev pub networkOf : (n m k s : ℕ) → List ℕ → AcNetwork Float
 networkOf n m k s b =

@@ -4,7 +4,7 @@ ghost use Prim.Native.Nat.{_+_, _*_, _≤_, _<_};
 ghost use lib.ListN.{length, getD};
 ghost use lib.Ieee.{ofBits, binary64};
 ghost use Rattle.records.specs.Bytes.{le16, le32, le64};
-ghost use Rattle.records.specs.Fields.{kindOf, flagsOf, countOf, idOf, firstOf, secondOf, bitsOf, floatOf, bit0, bit1, voltageBoundOf, gsOf, bsOf, pdOf, qdOf, vmMinOf, vmMaxOf, limitedOf, angleBoundOf, fromOf, toOf, gOf, bOf, gFrOf, bFrOf, gToOf, bToOf, tapOf, cosShiftOf, sinShiftOf, angminOf, angmaxOf, tanAngminOf, tanAngmaxOf, rateAOf, capabilityOf, piecewiseOf, segmentsOf, genBusOf, pminOf, pmaxOf, qminOf, qmaxOf, cqOf, clOf, ccOf, slopeOf, interceptOf};
+ghost use Rattle.records.specs.Fields.{kindOf, flagsOf, countOf, idOf, firstOf, secondOf, bitsOf, floatOf, flagBit, voltageBoundOf, gsOf, bsOf, pdOf, qdOf, vmMinOf, vmMaxOf, limitedOf, angleBoundOf, fromOf, toOf, gOf, bOf, gFrOf, bFrOf, gToOf, bToOf, tapOf, cosShiftOf, sinShiftOf, angminOf, angmaxOf, tanAngminOf, tanAngmaxOf, rateAOf, capabilityOf, piecewiseOf, segmentsOf, genBusOf, pminOf, pmaxOf, qminOf, qmaxOf, cqOf, clOf, ccOf, slopeOf, interceptOf};
 
 fn wide(x: u8) -> u16
     ensures { λ r. ⌜ r ≡ x ⌝ }
@@ -112,18 +112,12 @@ pub fn float(b: &[u8], r: usize, j: usize) -> f64
     float_at(b, 128 * r + 16 + 8 * j)
 }
 
-pub fn bit0(b: &[u8], r: usize) -> bool
-    requires { ⌜ 128 * r + 128 ≤ length (now b) ⌝ }
-    ensures { λ x. ⌜ x ≡ bit0 (now (b .entry)) r ⌝ }
+// Flag bit j.
+pub fn flag(b: &[u8], r: usize, j: u16) -> bool
+    requires { ⌜ (128 * r + 128 ≤ length (now b)) × (j < 8) ⌝ }
+    ensures { λ x. ⌜ x ≡ flagBit (now (b .entry)) r j ⌝ }
 {
-    flags(b, r) % 2 == 1
-}
-
-pub fn bit1(b: &[u8], r: usize) -> bool
-    requires { ⌜ 128 * r + 128 ≤ length (now b) ⌝ }
-    ensures { λ x. ⌜ x ≡ bit1 (now (b .entry)) r ⌝ }
-{
-    flags(b, r) / 2 % 2 == 1
+    (flags(b, r) >> j) % 2 == 1
 }
 
 // A bus.
@@ -131,7 +125,7 @@ pub fn voltage_bound_active(b: &[u8], r: usize) -> bool
     requires { ⌜ 128 * r + 128 ≤ length (now b) ⌝ }
     ensures { λ x. ⌜ x ≡ voltageBoundOf (now (b .entry)) r ⌝ }
 {
-    bit0(b, r)
+    flag(b, r, 0)
 }
 
 pub fn gs(b: &[u8], r: usize) -> f64
@@ -181,14 +175,14 @@ pub fn thermal_limit_active(b: &[u8], r: usize) -> bool
     requires { ⌜ 128 * r + 128 ≤ length (now b) ⌝ }
     ensures { λ x. ⌜ x ≡ limitedOf (now (b .entry)) r ⌝ }
 {
-    bit0(b, r)
+    flag(b, r, 0)
 }
 
 pub fn angle_bound_active(b: &[u8], r: usize) -> bool
     requires { ⌜ 128 * r + 128 ≤ length (now b) ⌝ }
     ensures { λ x. ⌜ x ≡ angleBoundOf (now (b .entry)) r ⌝ }
 {
-    bit1(b, r)
+    flag(b, r, 1)
 }
 
 pub fn br_from(b: &[u8], r: usize) -> u32
@@ -308,14 +302,14 @@ pub fn generator_capability_active(b: &[u8], r: usize) -> bool
     requires { ⌜ 128 * r + 128 ≤ length (now b) ⌝ }
     ensures { λ x. ⌜ x ≡ capabilityOf (now (b .entry)) r ⌝ }
 {
-    bit0(b, r)
+    flag(b, r, 0)
 }
 
 pub fn piecewise(b: &[u8], r: usize) -> bool
     requires { ⌜ 128 * r + 128 ≤ length (now b) ⌝ }
     ensures { λ x. ⌜ x ≡ piecewiseOf (now (b .entry)) r ⌝ }
 {
-    bit1(b, r)
+    flag(b, r, 1)
 }
 
 pub fn gen_bus(b: &[u8], r: usize) -> u32

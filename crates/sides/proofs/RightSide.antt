@@ -3,15 +3,15 @@ use Prim.Native.Nat.{ℕ, zero, suc, _+_, _*_}
 use mathlib.Core.Path.{_≡_, refl, sym, ap, _∙_}
 use mathlib.Core.Bool.{Bool, true, false}
 use mathlib.Core.List.{List, [], _∷_, _++_, append-assoc}
-use native.Mathlib.Nat.{mul-add, mul-one}
+use native.Mathlib.Nat.{add-assoc, mul-add, mul-one}
 use native.Mathlib.Omega.{arith}
 use lib.ListN.{length, length-append}
 use lib.Ieee.{Float, binary64, add, neg}
 use Rattle.lists.specs.UpTo.{upTo, each, listed, when, bit, sum, count}
 use Rattle.lists.proofs.Each.{each-ext, each-split}
 use Rattle.records.specs.Fields.{interceptOf}
-use Rattle.records.specs.Network.{segmentRecord}
 use Rattle.numbering.specs.Layout.{nvarOf, nconOf}
+use Rattle.records.proofs.Segments.{segment-record}
 use Rattle.numbering.specs.Laid.{netOf, Laid}
 use Rattle.numbering.specs.declared.SocWrLayout.{SocWrLayout}
 use Rattle.numbering.specs.declared.RowName.the-variants.{Segment}
@@ -91,12 +91,12 @@ module _ (l : SocWrLayout) (bytes : List ℕ) (laid : Laid l bytes) where
       (eight-blocks (l .k) (l .n) (l .m) zero64 (listed (l .k) (linearCost l bytes)) (listed (l .«cost_columns») (λ c. add binary64 zero64 (rounded .one))))
 
   intercepts : each (l .k) (λ g. each (netOf l bytes .segments g) (λ t. b (netOf l bytes) (Segment g t) ∷ [])) ≡ listed (l .s) (λ r. neg (interceptOf bytes (l .n + l .m + l .k + r)))
-  unfolding b segmentRecord
+  unfolding b
   intercepts =
       each-ext _ (λ g. each (netOf l bytes .segments g) (λ t. h (sum g (netOf l bytes .segments) + t))) (l .k)
       (λ g m. each-ext _ (λ t. h (sum g (netOf l bytes .segments) + t)) (netOf l bytes .segments g)
       (λ t o.
-      let e : l .n + l .m + l .k + sum g (netOf l bytes .segments) + t ≡ l .n + l .m + l .k + (sum g (netOf l bytes .segments) + t) = omega arith in
+      let e = sym (segment-record (l .n) (l .m) (l .k) bytes g t refl) ∙ add-assoc (l .n + l .m + l .k) (sum g (netOf l bytes .segments)) t in
       ap (λ (r : ℕ). neg (interceptOf bytes r) ∷ []) e))
       ∙ sym (each-sums (netOf l bytes .segments) h (l .k))
       ∙ ap (λ (n : ℕ). each n h) (laid .accepted .counts-add)

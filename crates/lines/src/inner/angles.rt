@@ -7,10 +7,36 @@ use branch::inner::conic_angle_bound_active;
 use numbering::SocWrLayout;
 use records::inner::tan_angmax;
 use records::inner::tan_angmin;
-ghost use Prim.Native.Nat.{_<_};
+ghost use mathlib.Core.Path.{_≡_};
+ghost use mathlib.Core.Bool.{cond};
+ghost use Prim.Native.Nat.{_+_, _*_, _<_, _≤_};
+ghost use lib.ListN.{length};
+ghost use Rattle.records.specs.Fields.{tanAngminOf, tanAngmaxOf};
+ghost use Rattle.rows.specs.Rows.{zero64};
 ghost use Rattle.numbering.specs.declared.RowName.the-variants.{Angub, Anglb};
 ghost use Rattle.numbering.specs.Laid.{netOf, Laid};
 ghost use Rattle.lines.specs.Line.{Stands};
+
+// "The tangents are read only where the angle rows are active"; where they are not, no row has this 0.
+fn max_tangent(on: bool, bytes: &[u8], r: usize) -> f64
+    requires { ⌜ 128 * r + 128 ≤ length (now bytes) ⌝ }
+    ensures { λ x. ⌜ x ≡ cond on (tanAngmaxOf (now (bytes .entry)) r) zero64 ⌝ }
+{
+    if on {
+        return tan_angmax(bytes, r);
+    }
+    0.0
+}
+
+fn min_tangent(on: bool, bytes: &[u8], r: usize) -> f64
+    requires { ⌜ 128 * r + 128 ≤ length (now bytes) ⌝ }
+    ensures { λ x. ⌜ x ≡ cond on (tanAngminOf (now (bytes .entry)) r) zero64 ⌝ }
+{
+    if on {
+        return tan_angmin(bytes, r);
+    }
+    0.0
+}
 
 pub fn angub(l: SocWrLayout, bytes: &[u8], e: usize) -> Line
     requires { ⌜ Laid l (now bytes) ⌝ }
@@ -19,7 +45,7 @@ pub fn angub(l: SocWrLayout, bytes: &[u8], e: usize) -> Line
 {
     let r = l.n + e;
     let on = conic_angle_bound_active(bytes, r);
-    let v = -tan_angmax(bytes, r);
+    let v = -max_tangent(on, bytes, r);
     let rhs = pick(on, 0.0, 1.0);
     line(
         l.angub_row(e),
@@ -36,7 +62,7 @@ pub fn anglb(l: SocWrLayout, bytes: &[u8], e: usize) -> Line
 {
     let r = l.n + e;
     let on = conic_angle_bound_active(bytes, r);
-    let v = tan_angmin(bytes, r);
+    let v = min_tangent(on, bytes, r);
     let rhs = pick(on, 0.0, 1.0);
     line(
         l.anglb_row(e),

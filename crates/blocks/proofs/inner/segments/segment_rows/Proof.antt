@@ -7,10 +7,11 @@ use Rattle.lists.specs.UpTo.{each, sum, count, bit}
 use Rattle.lists.specs.Out.{out, Wrote}
 use Rattle.lists.proofs.Written.{no-turn, turn, len-rows, len-cols, len-vals}
 use Rattle.numbering.specs.declared.RowName.the-variants.{Segment}
+use Rattle.records.proofs.Segments.{segments-below}
 use Rattle.numbering.specs.Laid.{netOf}
 use Rattle.complementarity.specs.Writes.{rowIn}
 use Rattle.complementarity.proofs.Rooms.{room-turn}
-use Rattle.blocks.proofs.Laws.{segments-le, sum-more, count-more, none-yet}
+use Rattle.blocks.proofs.Laws.{sum-more, count-more, none-yet}
 use borrow.Author.Needs.{needs}
 use native.Mathlib.Omega.{arith}
 use Rattle.blocks.proofs.inner.segments.segment_rows.Statement.{statement}
@@ -37,7 +38,7 @@ segments-requires : tie.Need-segments-requires Inv-loop μ-loop
 segments-requires c κs = omega (arith, c .before .before .before .before .before .before .before .before .before .before .before .before .before .before .before .before .before .before .before .before .pre .0 .laid .accepted .size)
 
 add-before : tie.Need-add-before Inv-loop μ-loop
-add-before c = let q = c .before .before .before .before .before .before .before .before .before .before .before .before .before .before .before .before .before .before .before .before .before .pre .0 .laid .range in omega (arith, c .segments .ensures .1, c .before .before .before .before .before .before .before .before .before .before .before .before .before .before .loop .inv .2, segments-le (c .before .before .before .before .before .before .before .before .before .before .before .before .before .before .before .before .before .before .before .before .before .pre .0 .laid) (c .before .before .before .before .before .before .before .before .before .before .before .before .before .before .loop .g) (c .before .before .before .before .before .before .before .before .before .before .before .before .before .before .loop .inv .0))
+add-before c = let q = c .before .before .before .before .before .before .before .before .before .before .before .before .before .before .before .before .before .before .before .before .before .pre .0 .laid .range in omega (arith, c .segments .ensures .1, c .before .before .before .before .before .before .before .before .before .before .before .before .before .before .loop .inv .2, segments-below (c .before .before .before .before .before .before .before .before .before .before .before .before .before .before .before .before .before .before .before .before .before .pre .0 .laid .accepted) (c .before .before .before .before .before .before .before .before .before .before .before .before .before .before .loop .g) (c .before .before .before .before .before .before .before .before .before .before .before .before .before .before .loop .inv .0))
 
 piecewise-requires : tie.Need-piecewise-requires Inv-loop μ-loop
 piecewise-requires c κs = omega (arith, c .before .before .before .before .before .before .before .before .before .before .before .before .before .before .before .before .before .before .before .before .before .pre .0 .laid .accepted .size)

@@ -1,4 +1,4 @@
--- `lines::inner::angles::anglb` meets its contract. Assumes nothing.
+-- `lines::inner::angles::anglb` meets its contract: where the row is active it has the tangent, and else no term. Assumes nothing.
 use Rattle.lines.proofs.Lines.{anglb-stands}
 use borrow.Author.Needs.{needs}
 use native.Mathlib.Omega.{arith}
@@ -15,7 +15,19 @@ wi-column-requires : tie.Need-wi-column-requires
 wi-column-requires c κs = (c .before .before .before .before .before .before .before .before .pre .0 .range, omega arith)
 
 returns : tie.Need-returns
-returns c = rw (c .line .ensures, c .before .before .before .spot .ensures, c .before .spot2 .ensures, c .before .before .before .before .before .anglb-row .ensures, c .before .before .before .before .wr-column .ensures, c .before .before .wi-column .ensures, c .before .before .before .before .before .before .pick .ensures, c .before .before .before .before .before .before .before .before .conic-angle-bound-active .ensures, c .before .before .before .before .before .before .before .tan-angmin .ensures) (anglb-stands _ _ (c .before .before .before .before .before .before .before .before .before .before .before .pre .0) _ (c .before .before .before .before .before .before .before .before .before .before .before .pre .1))
+returns c =
+    let s = c .before .before .before .before .before .before .before .before .before .before .before in
+    rw (
+      c .line .ensures,
+      c .before .before .before .spot .ensures,
+      c .before .spot2 .ensures,
+      c .before .before .before .before .before .anglb-row .ensures,
+      c .before .before .before .before .wr-column .ensures,
+      c .before .before .wi-column .ensures,
+      c .before .before .before .before .before .before .pick .ensures,
+      c .before .before .before .before .before .before .before .before .conic-angle-bound-active .ensures,
+    )
+    (anglb-stands _ _ (s .pre .0) _ (c .before .before .before .before .before .before .before .min-tangent .result) (s .pre .1) (λ h. rw (c .before .before .before .before .before .before .before .min-tangent .ensures, c .before .before .before .before .before .before .before .before .conic-angle-bound-active .ensures, h)))
 
 pub anglb-spec : {M : Type 1} → statement M
 anglb-spec = tie.close (tie.spec (λ c. search needs) (λ c κs. search needs) (λ c κs. search needs) (λ c κs. search needs) anglb-row-requires wr-column-requires (λ c κs. search needs) wi-column-requires (λ c κs. search needs) (λ c κs. search needs) returns)

@@ -1,20 +1,19 @@
 -- `reading::inner::cost::total_cost` meets its contract. Assumes nothing.
 use Rattle.lists.specs.UpTo.{upTo}
 use Rattle.lists.proofs.Sums.{sum-next}
-use Rattle.reading.proofs.Costs.{segments-fit}
 use borrow.Author.Needs.{needs}
 use Prim.Native.Nat.{_≤_, _+_, _-_}
 use mathlib.Core.Path.{_≡_, refl, _∙_}
 use native.Mathlib.Omega.{arith}
-use Rattle.lists.specs.UpTo.{sum as addUp}
 use Rattle.records.specs.Fields.{segmentsOf}
-use Rattle.records.specs.Network.{networkOf}
+use Rattle.records.specs.Network.{networkOf, segmentsBefore}
+use Rattle.records.proofs.Segments.{segments-fit}
 use Rattle.reading.proofs.Costs.{total-so-far, total-more, total-all}
 use Rattle.reading.proofs.inner.cost.total_cost.Statement.{statement}
 use Rattle.reading.proofs.inner.cost.total_cost.Tie as tie
 
 abbrev Inv-loop : tie.InvT-loop
-Inv-loop n m k s b x gens first₀ sum₀ g₀ first sum g = (g ≤ k) × (gens ≡ n + m) × (first ≡ n + m + k + addUp g (λ i. segmentsOf b (n + m + i))) × (sum ≡ total-so-far (networkOf n m k s b) x g)
+Inv-loop n m k s b x gens first₀ sum₀ g₀ first sum g = (g ≤ k) × (gens ≡ n + m) × (first ≡ n + m + k + segmentsBefore n m b g) × (sum ≡ total-so-far (networkOf n m k s b) x g)
 
 abbrev μ-loop : tie.MeasureT-loop
 μ-loop n m k s b x gens first₀ sum₀ g₀ first sum g = k - g
@@ -28,11 +27,11 @@ segments-requires c κs = let a = c .before .before .before .before .args in let
 
 generator-cost-requires : tie.Need-generator-cost-requires Inv-loop μ-loop
 generator-cost-requires c κs = let a = c .before .before .before .before .before .before .args in let p = c .before .before .before .before .before .before .pre .0 in
-    omega (arith, p .size, segments-fit (a .n) (a .m) (a .k) (a .s) (a .b .now) p (c .before .before .before .loop .g) (omega arith), c .before .segments .ensures .0, c .before .before .before .loop .inv .2)
+    omega (arith, p .size, segments-fit p (c .before .before .before .loop .g) (omega arith), c .before .segments .ensures .0, c .before .before .before .loop .inv .2)
 
 add-first-2 : tie.Need-add-first-2 Inv-loop μ-loop
 add-first-2 c = let a = c .before .before .before .before .before .before .before .args in let p = c .before .before .before .before .before .before .before .pre .0 in
-    omega (arith, p .few-buses, p .few-branches, p .few-generators, p .few-segments, segments-fit (a .n) (a .m) (a .k) (a .s) (a .b .now) p (c .before .before .before .before .loop .g) (omega arith), c .before .before .segments .ensures .0, c .before .before .before .before .loop .inv .2)
+    omega (arith, p .few-buses, p .few-branches, p .few-generators, p .few-segments, segments-fit p (c .before .before .before .before .loop .g) (omega arith), c .before .before .segments .ensures .0, c .before .before .before .before .loop .inv .2)
 
 loop-again : tie.Need-loop-again Inv-loop μ-loop
 loop-again c = let a = c .before .before .before .before .before .before .before .args in (

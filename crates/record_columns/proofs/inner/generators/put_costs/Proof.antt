@@ -10,13 +10,14 @@ use Rattle.lists.specs.Compressed.{cellOut}
 use Rattle.lists.proofs.Compressed.{len-rows, len-vals}
 use Rattle.lists.proofs.Each.{each-more}
 use Rattle.lists.proofs.Sums.{sum-next, each-le, bit-le}
+use Rattle.records.proofs.Segments.{segments-below, segments-fit}
 use Rattle.numbering.specs.Blocks.{before}
 use Rattle.numbering.specs.Layout.{layoutRows}
 use Rattle.numbering.specs.Laid.{netOf}
 use Rattle.cells.specs.Columns.{Columns}
 use Rattle.record_columns.specs.Writers.{costTurn}
 use Rattle.cells.proofs.Ends.{columns-starts, columns-start, columns-end}
-use Rattle.record_columns.proofs.Written.{costs-are, turn-length, turn-le, turned, segments-below, segments-next}
+use Rattle.record_columns.proofs.Written.{costs-are, turn-length, turn-le, turned}
 use Rattle.record_columns.proofs.inner.generators.put_costs.Statement.{statement}
 use Rattle.record_columns.proofs.inner.generators.put_costs.Tie as tie
 
@@ -35,7 +36,7 @@ add-put-cost c =
     let a = c .before .before .before .before .before .before .before .before .before .before .before .before .before .before .before .before .args in
     let b = now (a .bytes) in
     let r = c .before .before .before .before .before .before .before .before .before .before .before .before .before .before .before .before .pre .0 in
-    let h = segments-next (a .l) b r (c .before .before .before .before .before .before .before .loop .g) (omega arith) in
+    let h = segments-fit (r .accepted) (c .before .before .before .before .before .before .before .loop .g) (omega arith) in
     omega (arith, h, c .before .before .before .before .before .before .before .loop .inv .2, c .before .before .before .before .before .before .before .loop .inv .3, r .range .n-range, r .range .m-range, r .range .k-range, r .range .s-range)
 
 put-cost-requires : tie.Need-put-cost-requires Inv-loop μ-loop
@@ -43,7 +44,7 @@ put-cost-requires c κs =
     let a = c .before .before .before .before .before .before .before .before .before .before .before .before .before .before .before .before .args in
     let b = now (a .bytes) in
     let r = c .before .before .before .before .before .before .before .before .before .before .before .before .before .before .before .before .pre .0 in
-    let h = segments-next (a .l) b r (c .before .before .before .before .before .before .before .loop .g) (omega arith) in
+    let h = segments-fit (r .accepted) (c .before .before .before .before .before .before .before .loop .g) (omega arith) in
     let u = each-le (c .before .before .before .before .before .before .before .loop .g) 1 (costTurn (netOf (a .l) b)) (λ i. turn-le (a .l) b i) in (
       (omega (arith, h, c .before .before .before .before .before .before .before .loop .inv .3, c .before .before .before .before .before .before .before .loop .inv .4, r .accepted .few-segments, c .before .before .before .before .before .before .before .before .before .before .before .before .before .before .before .before .pre .1), omega (arith, h, c .before .before .before .segments .ensures .0, r .accepted .few-segments), omega (arith, h, c .before .before .before .before .before .before .before .loop .inv .2, c .before .before .before .before .before .before .before .loop .inv .3, r .range .n-range, r .range .m-range, r .range .k-range, r .range .s-range)),
       omega (arith, u, c .before .before .before .before .before .before .before .loop .inv .5, r .range .n-range, r .range .m-range, r .range .k-range),
@@ -54,7 +55,7 @@ add-c-3 c =
     let a = c .before .before .before .before .before .before .before .before .before .before .before .before .before .before .before .before .before .before .before .before .before .before .before .before .args in
     let b = now (a .bytes) in
     let r = c .before .before .before .before .before .before .before .before .before .before .before .before .before .before .before .before .before .before .before .before .before .before .before .before .pre .0 in
-    let h = segments-next (a .l) b r (c .before .before .before .before .before .before .before .before .before .before .before .before .before .before .before .loop .g) (omega arith) in
+    let h = segments-fit (r .accepted) (c .before .before .before .before .before .before .before .before .before .before .before .before .before .before .before .loop .g) (omega arith) in
     let u = each-le (c .before .before .before .before .before .before .before .before .before .before .before .before .before .before .before .loop .g) 1 (costTurn (netOf (a .l) b)) (λ i. turn-le (a .l) b i) in
     omega (arith, u, c .before .before .before .before .before .before .before .before .before .before .before .before .before .before .before .loop .inv .5, c .bit .ensures .0, bit-le (c .before .before .before .before .before .before .before .before .before .before .before .before .piecewise .result), r .range .n-range, r .range .m-range, r .range .k-range)
 
@@ -63,7 +64,7 @@ add-seg c =
     let a = c .before .before .before .before .before .before .before .before .before .before .before .before .before .before .before .before .before .before .before .before .before .before .before .before .args in
     let b = now (a .bytes) in
     let r = c .before .before .before .before .before .before .before .before .before .before .before .before .before .before .before .before .before .before .before .before .before .before .before .before .pre .0 in
-    let h = segments-next (a .l) b r (c .before .before .before .before .before .before .before .before .before .before .before .before .before .before .before .loop .g) (omega arith) in
+    let h = segments-fit (r .accepted) (c .before .before .before .before .before .before .before .before .before .before .before .before .before .before .before .loop .g) (omega arith) in
     omega (arith, h, c .before .before .before .before .before .before .before .before .before .before .before .segments .ensures .0, c .before .before .before .before .before .before .before .before .before .before .before .before .before .before .before .loop .inv .3, r .accepted .few-segments)
 
 loop-again : tie.Need-loop-again Inv-loop μ-loop
@@ -71,7 +72,7 @@ loop-again c =
     let a = c .before .before .before .before .before .before .before .before .before .before .before .before .before .before .before .before .before .before .before .before .before .before .before .before .args in
     let b = now (a .bytes) in
     let r = c .before .before .before .before .before .before .before .before .before .before .before .before .before .before .before .before .before .before .before .before .before .before .before .before .pre .0 in
-    let h = segments-next (a .l) b r (c .before .before .before .before .before .before .before .before .before .before .before .before .before .before .before .loop .g) (omega arith) in
+    let h = segments-fit (r .accepted) (c .before .before .before .before .before .before .before .before .before .before .before .before .before .before .before .loop .g) (omega arith) in
     let n = c .before .before .before .before .before .before .before .before .before .before .before .segments .ensures .0 in
     let p : c .before .before .before .before .before .before .before .before .before .before .before .before .piecewise .result ≡ netOf (a .l) b .piecewise (c .before .before .before .before .before .before .before .before .before .before .before .before .before .before .before .loop .g) = c .before .before .before .before .before .before .before .before .before .before .before .before .piecewise .ensures in
     let q : c .before .before .before .before .before .before .before .before .before .before .before .before .before .before .before .before .before .before .before .segment-row .result + c .before .before .before .before .before .before .before .before .before .before .before .before .before .before .before .loop .seg ≡ before (layoutRows (a .l)) 14 + sum (c .before .before .before .before .before .before .before .before .before .before .before .before .before .before .before .loop .g) (netOf (a .l) b .segments) = omega (arith, c .before .before .before .before .before .before .before .before .before .before .before .before .before .before .before .loop .inv .2, c .before .before .before .before .before .before .before .before .before .before .before .before .before .before .before .loop .inv .3) in
@@ -98,7 +99,7 @@ same-length-3 c = len-vals (c .before .loop .inv .6 .cells)
 returns : tie.Need-returns Inv-loop μ-loop
 returns c =
     let a = c .before .before .before .before .before .before .before .before .before .before .args in
-    (columns-end _ (omega arith) (c .before .loop .inv .6), omega (arith, c .before .loop .inv .3, c .before .loop .inv .4, segments-below (a .l) (now (a .bytes)) (c .before .before .before .before .before .before .before .before .before .before .pre .0) (c .before .loop .g) (omega arith)))
+    (columns-end _ (omega arith) (c .before .loop .inv .6), omega (arith, c .before .loop .inv .3, c .before .loop .inv .4, segments-below (c .before .before .before .before .before .before .before .before .before .before .pre .0 .accepted) (c .before .loop .g) (omega arith)))
 
 pub put-costs-spec : {M : Type 1} → statement M
 put-costs-spec = tie.close (tie.spec Inv-loop μ-loop (λ c κs. search needs) (λ c. search needs) (λ c. search needs) (λ c. search needs) (λ c. search needs) (λ c. search needs) loop-holds (λ c. search needs) (λ c. search needs) (λ c κs. search needs) (λ c κs. search needs) add-put-cost put-cost-requires (λ c κs. search needs) add-c-3 add-seg (λ c. search needs) (λ c. search needs) loop-again same-length same-length-2 same-length-3 returns)

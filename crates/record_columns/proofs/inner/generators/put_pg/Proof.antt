@@ -7,16 +7,17 @@ use denote.Ref.{now}
 use Rattle.lists.specs.UpTo.{sum}
 use Rattle.lists.proofs.Compressed.{then}
 use Rattle.numbering.specs.Blocks.{before}
+use Rattle.records.proofs.Segments.{segments-fit}
 use Rattle.numbering.specs.Layout.{layoutRows}
 use Rattle.numbering.specs.Laid.{netOf}
 use Rattle.matrix.specs.Columns.{pgCells}
 use Rattle.record_columns.specs.Writers.{pgHead}
-use Rattle.record_columns.proofs.Written.{slopes-are, segments-next}
+use Rattle.record_columns.proofs.Written.{slopes-are}
 use Rattle.record_columns.proofs.inner.generators.put_pg.Statement.{statement}
 use Rattle.record_columns.proofs.inner.generators.put_pg.Tie as tie
 
 add-first-3 : tie.Need-add-first-3
-add-first-3 c = omega (arith, segments-next (c .before .before .before .before .before .args .l) (now (c .before .before .before .before .before .args .bytes)) (c .before .before .before .before .before .pre .0) (c .before .before .before .before .before .args .g) (c .before .before .before .before .before .pre .1 .0 .0), c .before .before .before .before .before .pre .1 .1, c .before .before .before .before .before .pre .0 .range .n-range, c .before .before .before .before .before .pre .0 .range .m-range, c .before .before .before .before .before .pre .0 .range .k-range, c .before .before .before .before .before .pre .0 .range .s-range)
+add-first-3 c = omega (arith, segments-fit (c .before .before .before .before .before .pre .0 .accepted) (c .before .before .before .before .before .args .g) (c .before .before .before .before .before .pre .1 .0 .0), c .before .before .before .before .before .pre .1 .1, c .before .before .before .before .before .pre .0 .range .n-range, c .before .before .before .before .before .pre .0 .range .m-range, c .before .before .before .before .before .pre .0 .range .k-range, c .before .before .before .before .before .pre .0 .range .s-range)
 
 add-put-slopes : tie.Need-add-put-slopes
 add-put-slopes c = omega (arith, c .before .before .before .before .before .before .before .before .before .segment-row .ensures, segments-next (c .before .before .before .before .before .before .before .before .before .before .before .before .before .before .before .args .l) (now (c .before .before .before .before .before .before .before .before .before .before .before .before .before .before .before .args .bytes)) (c .before .before .before .before .before .before .before .before .before .before .before .before .before .before .before .pre .0) (c .before .before .before .before .before .before .before .before .before .before .before .before .before .before .before .args .g) (c .before .before .before .before .before .before .before .before .before .before .before .before .before .before .before .pre .1 .0 .0), c .before .before .before .before .before .before .before .before .before .before .before .before .before .before .before .pre .1 .1, c .before .before .before .before .before .before .before .before .before .before .before .before .before .before .before .pre .0 .range .n-range, c .before .before .before .before .before .before .before .before .before .before .before .before .before .before .before .pre .0 .range .m-range, c .before .before .before .before .before .before .before .before .before .before .before .before .before .before .before .pre .0 .range .k-range, c .before .before .before .before .before .before .before .before .before .before .before .before .before .before .before .pre .0 .range .s-range)
@@ -25,7 +26,7 @@ put-slopes-requires : tie.Need-put-slopes-requires
 put-slopes-requires c κs =
     let a = c .before .before .before .before .before .before .before .before .before .before .before .before .before .before .before .args in
     let r = c .before .before .before .before .before .before .before .before .before .before .before .before .before .before .before .pre .0 in
-    let h = segments-next (a .l) (now (a .bytes)) r (a .g) (c .before .before .before .before .before .before .before .before .before .before .before .before .before .before .before .pre .1 .0 .0) in
+    let h = segments-fit (r .accepted) (a .g) (c .before .before .before .before .before .before .before .before .before .before .before .before .before .before .before .pre .1 .0 .0) in
     let s = c .before .before .before .before .before .before .before .before .before .before .before .before .before .before .before .pre .1 .1 in
     let z = r .accepted .size in
     (((omega (arith, c .before .before .before .before .before .before .put-pg-head .ensures .1, c .before .before .before .before .before .before .before .before .before .before .before .before .before .before .before .pre .1 .0), omega (arith, h, s, r .accepted .few-segments), omega (arith, c .before .before .before .before .before .before .before .before .before .segment-row .ensures, h, s, r .range .n-range, r .range .m-range, r .range .k-range, r .range .s-range))), rw z (omega (arith, h, s)))

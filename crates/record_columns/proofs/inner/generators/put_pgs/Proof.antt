@@ -14,7 +14,7 @@ use Rattle.records.specs.Fields.{segmentsOf}
 use Rattle.matrix.specs.Columns.{pgCells}
 use Rattle.cells.specs.Columns.{Columns}
 use Rattle.cells.proofs.Ends.{columns-none, columns-more, columns-all, columns-starts}
-use Rattle.record_columns.proofs.Written.{segments-below, segments-next}
+use Rattle.records.proofs.Segments.{segments-below, segments-fit}
 use Rattle.record_columns.proofs.inner.generators.put_pgs.Statement.{statement}
 use Rattle.record_columns.proofs.inner.generators.put_pgs.Tie as tie
 
@@ -33,7 +33,7 @@ put-pg-requires c κs =
     let a = c .before .before .before .before .before .before .before .before .before .before .args in
     let b = now (a .bytes) in
     let r = c .before .before .before .before .before .before .before .before .before .before .pre .0 in
-    let h = segments-next (a .l) b r (c .before .before .before .before .loop .g) (omega arith) in
+    let h = segments-fit (r .accepted) (c .before .before .before .before .loop .g) (omega arith) in
     let f = ap (λ (x : ℕ). segmentsOf b (x + c .before .before .before .before .loop .g)) (c .before .before .before .before .loop .inv .2) in
     (r, ((omega arith, omega (arith, h, f, c .before .before .before .before .loop .inv .3, c .before .before .before .before .loop .inv .4, r .accepted .few-segments, r .accepted .few-generators)), (c .before .before .before .before .loop .inv .3, c .before .before .segments .ensures .0 ∙ f)))
 
@@ -42,7 +42,7 @@ cast-store-u32 c =
     let a = c .before .before .before .before .before .before .before .before .before .before .before .before .before .before .before .before .args in
     let b = now (a .bytes) in
     let r = c .before .before .before .before .before .before .before .before .before .before .before .before .before .before .before .before .pre .0 in
-    let h = segments-next (a .l) b r (c .before .before .before .before .before .before .before .before .before .before .loop .g) (omega arith) in
+    let h = segments-fit (r .accepted) (c .before .before .before .before .before .before .before .before .before .before .loop .g) (omega arith) in
     let f = ap (λ (x : ℕ). segmentsOf b (x + c .before .before .before .before .before .before .before .before .before .before .loop .g)) (c .before .before .before .before .before .before .before .before .before .before .loop .inv .2) in
     omega (arith, h, f, c .before .before .before .before .before .before .before .before .segments .ensures .0, c .before .before .before .before .before .put-pg .ensures .1, c .before .before .before .before .before .before .before .before .before .before .loop .inv .3, c .before .before .before .before .before .before .before .before .before .before .loop .inv .4, r .accepted .few-segments, r .accepted .few-generators)
 
@@ -51,7 +51,7 @@ add-seg c =
     let a = c .before .before .before .before .before .before .before .before .before .before .before .before .before .before .before .before .before .before .before .args in
     let b = now (a .bytes) in
     let r = c .before .before .before .before .before .before .before .before .before .before .before .before .before .before .before .before .before .before .before .pre .0 in
-    let h = segments-next (a .l) b r (c .before .before .before .before .before .before .before .before .before .before .before .before .before .loop .g) (omega arith) in
+    let h = segments-fit (r .accepted) (c .before .before .before .before .before .before .before .before .before .before .before .before .before .loop .g) (omega arith) in
     let f = ap (λ (x : ℕ). segmentsOf b (x + c .before .before .before .before .before .before .before .before .before .before .before .before .before .loop .g)) (c .before .before .before .before .before .before .before .before .before .before .before .before .before .loop .inv .2) in
     omega (arith, h, f, c .before .before .before .before .before .before .before .before .before .before .before .segments .ensures .0, c .before .before .before .before .before .before .before .before .before .before .before .before .before .loop .inv .3, r .accepted .few-segments)
 
@@ -60,7 +60,7 @@ loop-again c =
     let a = c .before .before .before .before .before .before .before .before .before .before .before .before .before .before .before .before .before .before .before .args in
     let b = now (a .bytes) in
     let r = c .before .before .before .before .before .before .before .before .before .before .before .before .before .before .before .before .before .before .before .pre .0 in
-    let h = segments-next (a .l) b r (c .before .before .before .before .before .before .before .before .before .before .before .before .before .loop .g) (omega arith) in
+    let h = segments-fit (r .accepted) (c .before .before .before .before .before .before .before .before .before .before .before .before .before .loop .g) (omega arith) in
     let f = ap (λ (x : ℕ). segmentsOf b (x + c .before .before .before .before .before .before .before .before .before .before .before .before .before .loop .g)) (c .before .before .before .before .before .before .before .before .before .before .before .before .before .loop .inv .2) in (
       omega arith,
       c .before .before .before .before .before .before .before .before .before .before .before .before .before .loop .inv .1,
@@ -80,7 +80,7 @@ same-length-3 : tie.Need-same-length-3 Inv-loop μ-loop
 same-length-3 c = len-vals (c .before .loop .inv .5 .cells)
 
 returns : tie.Need-returns Inv-loop μ-loop
-returns c = (columns-all _ (omega arith) (c .before .loop .inv .5), omega (arith, c .before .loop .inv .3, c .before .loop .inv .4, segments-below (c .before .before .before .before .before .before .before .args .l) (now (c .before .before .before .before .before .before .before .args .bytes)) (c .before .before .before .before .before .before .before .pre .0) (c .before .loop .g) (omega arith)))
+returns c = (columns-all _ (omega arith) (c .before .loop .inv .5), omega (arith, c .before .loop .inv .3, c .before .loop .inv .4, segments-below (c .before .before .before .before .before .before .before .pre .0 .accepted) (c .before .loop .g) (omega arith)))
 
 pub put-pgs-spec : {M : Type 1} → statement M
 put-pgs-spec = tie.close (tie.spec Inv-loop μ-loop (λ c. search needs) loop-holds (λ c. search needs) (λ c κs. search needs) put-pg-requires (λ c. search needs) cast-store-u32 (λ c κs. search needs) add-seg (λ c. search needs) (λ c. search needs) loop-again same-length same-length-2 same-length-3 returns)
