@@ -2,7 +2,7 @@
 use Prim.Native.Nat.{ℕ}
 use mathlib.Core.List.{List, [], _∷_, _++_}
 use lib.ListN.{getD}
-use lib.Ieee.{Float, binary64, nan, mul, div}
+use lib.Ieee.{Float, binary64, nan, mul}
 use Rattle.records.specs.AcNetwork.{AcNetwork}
 use Rattle.numbering.specs.Numbering.{columnNumber, rowNumber}
 use Rattle.numbering.specs.declared.ColumnName.{ColumnName}
@@ -10,18 +10,12 @@ use Rattle.numbering.specs.declared.ColumnName.the-variants.{W}
 use Rattle.numbering.specs.declared.RowName.{RowName}
 use Rattle.numbering.specs.declared.RowName.the-variants.{Pbal, Qbal}
 use Rattle.rows.specs.Ops.{rounded}
-use Rattle.rows.specs.Rows.{Constant, Coefficient, plain, over, constant, one, minusOne, constant64, ohmRow, ohmColumn}
+use Rattle.rows.specs.Rows.{Constant, one, minusOne, constant64, value64, ohmRow, ohmColumn}
 use Rattle.kkt.specs.Kkt.{kktRow}
 use Rattle.interface.specs.declared.GB.{GB}
 use Rattle.interface.specs.declared.GB.the-variants.{Conductance, Susceptance}
 use Rattle.admittance.specs.Stores.{Store, plus}
 use Rattle.admittance.specs.Series.{Slope, series}
-
--- an entry as the code computes it
-abbrev pub entry64 : Float → Coefficient Float → Float
-entry64 tm2 (plain a) = a
-entry64 tm2 (over a) = div binary64 a tm2
-entry64 tm2 (constant c) = constant64 c
 
 -- gs is in A as -gs, in the active balance; bs as it is, in the reactive one
 abbrev pub shuntRow : GB → ℕ → RowName
@@ -60,5 +54,5 @@ module _ (G : AcNetwork Float) where
     -- the ten entries of a branch's series admittance
     abbrev pub seriesStores : GB → ℕ → List Store
     seriesStores gb e =
-        inTurn (λ d. landed (ohmRow (d .row) e) (ohmColumn G (d .row) (d .place) e) (entry64 (G .branch e .tm2) (d .value)))
+        inTurn (λ d. landed (ohmRow (d .row) e) (ohmColumn G (d .row) (d .place) e) (value64 (G .branch e .tm2) (d .value)))
         (series rounded (G .branch e .tr) (G .branch e .ti) gb)

@@ -7,11 +7,11 @@ use Rattle.numbering.specs.Layout.{layoutRow, layoutColumn, nvarOf}
 use Rattle.numbering.specs.declared.SocWrLayout.{SocWrLayout}
 use Rattle.numbering.specs.declared.RowName.{RowName}
 use Rattle.rows.specs.Ops.{rounded}
-use Rattle.rows.specs.Rows.{OhmRow, pf, qf, pt, qt, OhmPlace, w, wr, wi, flow}
+use Rattle.rows.specs.Rows.{value64, OhmRow, pf, qf, pt, qt, OhmPlace, w, wr, wi, flow}
 use Rattle.interface.specs.declared.GB.{GB}
 use Rattle.admittance.specs.Stores.{Store, plus}
 use Rattle.admittance.specs.Series.{Slope, series}
-use Rattle.admittance.specs.Admittance.{entry64, inTurn}
+use Rattle.admittance.specs.Admittance.{inTurn}
 use Rattle.branch.specs.declared.Series.{Series}
 use Rattle.admittance.specs.declared.inner.series.OhmRows.{OhmRows}
 use Rattle.admittance.specs.declared.inner.series.OhmColumns.{OhmColumns}
@@ -38,7 +38,7 @@ columnIn cs r wi = cs .wi
 columnIn cs r flow = 0
 
 abbrev pub entryAt : OhmRows → OhmColumns → Series → Slope Float → Entry
-entryAt rs cs t d = record { 0 = rowIn rs (d .row); 1 = columnIn cs (d .row) (d .place); 2 = entry64 (t .tm2) (d .value) }
+entryAt rs cs t d = record { 0 = rowIn rs (d .row); 1 = columnIn cs (d .row) (d .place); 2 = value64 (t .tm2) (d .value) }
 
 unfoldable pub seriesEntries : OhmRows → OhmColumns → Series → GB → List Entry
 seriesEntries rs cs t gb = map (entryAt rs cs t) (series rounded (t .tr) (t .ti) gb)

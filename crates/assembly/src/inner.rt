@@ -1,9 +1,9 @@
 // A by compressed columns: its parts one after the other, and their count.
+use branch::OhmRow;
 use bus_columns::inner::counts::count_from;
 use bus_columns::inner::counts::count_own;
 use bus_columns::inner::counts::count_to;
 use bus_columns::inner::put_buses;
-use coefficients::OhmRow;
 use lists::inner::store_u32;
 use numbering::SocWrLayout;
 use record_columns::inner::branches::put_flows;

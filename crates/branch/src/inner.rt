@@ -15,6 +15,9 @@ ghost use Rattle.records.specs.Fields.{angledOf};
 ghost use Rattle.records.specs.Network.{branchOf};
 ghost use Rattle.branch.specs.Series.{seriesOf};
 
+pub mod ohm;
+pub mod places;
+
 pub fn series(bytes: &[u8], r: usize) -> Series
     requires { ⌜ 128 * r + 128 ≤ length (now bytes) ⌝ }
     ensures { λ x. ⌜ x ≡ seriesOf (branchOf (now (bytes .entry)) r) ⌝ }

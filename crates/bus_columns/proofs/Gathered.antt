@@ -12,8 +12,7 @@ use Rattle.lists.specs.Compressed.{cellOut, WroteCells}
 use Rattle.lists.proofs.Each.{part-each}
 use Rattle.lists.proofs.Compressed.{valsOf, vals-sets, len-vals, pos}
 use Rattle.records.specs.AcNetwork.{AcNetwork}
-use Rattle.rows.specs.Rows.{OhmRow, pf, qf, pt, qt, w}
-use Rattle.matrix.specs.Columns.{ohmValue}
+use Rattle.rows.specs.Rows.{OhmRow, pf, qf, pt, qt, w, ohmValue}
 use Rattle.cells.specs.Filled.{Filled}
 use Rattle.bus_columns.specs.Gathered.{placeOf, fourOf, Gathered}
 

@@ -7,8 +7,7 @@ use lib.Seq.{sets}
 use lib.Ieee.{Float, nan}
 use Rattle.lists.specs.UpTo.{each}
 use Rattle.records.specs.AcNetwork.{AcNetwork}
-use Rattle.rows.specs.Rows.{OhmRow, pf, qf, pt, qt, w}
-use Rattle.matrix.specs.Columns.{ohmValue}
+use Rattle.rows.specs.Rows.{OhmRow, pf, qf, pt, qt, w, ohmValue}
 
 -- the place of an Ohm row among a branch's four
 abbrev pub placeOf : OhmRow → ℕ

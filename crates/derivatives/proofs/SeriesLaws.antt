@@ -19,8 +19,9 @@ use Rattle.rows.specs.Rows.{OhmRow, pf, qf, pt, qt, OhmPlace, w, wr, wi, flow, 
 use Rattle.interface.specs.declared.GB.{GB}
 use Rattle.interface.specs.declared.GB.the-variants.{Conductance, Susceptance}
 use Rattle.admittance.specs.Series.{Slope, series}
-use Rattle.derivatives.specs.Formal.{formal}
-use Rattle.derivatives.specs.Sums.{code, scaled, row, seriesRow}
+use Rattle.rows.specs.Formal.{formal}
+use Rattle.rows.specs.Scaled.{scaled, row}
+use Rattle.derivatives.specs.Sums.{code, seriesRow}
 use Rattle.derivatives.specs.Raised.{more, moreSeries}
 
 -- an Ohm row, and its series entries, times the values at its four columns

@@ -18,7 +18,8 @@ use Rattle.rows.specs.Rows.{plain, one, minusOne, Cell, cell, hits, cells}
 use Rattle.interface.specs.declared.GB.{GB}
 use Rattle.interface.specs.declared.GB.the-variants.{Conductance, Susceptance}
 use Rattle.admittance.specs.Admittance.{shuntRow}
-use Rattle.derivatives.specs.Sums.{scaled, sum, row, shuntTimes}
+use Rattle.rows.specs.Scaled.{scaled, sum, row}
+use Rattle.derivatives.specs.Sums.{shuntTimes}
 use Rattle.derivatives.specs.Raised.{changed, moreAt, moreShunt}
 
 module _ (x : ColumnName → ℤ) where

@@ -1,3 +1,2 @@
-pub mod Formal
 pub mod Sums
 pub mod Raised

@@ -9,10 +9,11 @@ use lib.IntN.{ℤ, pos, negℤ, _+ℤ_, _-ℤ_, _*ℤ_, +ℤ-idl, +ℤ-assoc, *�
 use Rattle.ring.specs.Whole.{mul-add}
 use Rattle.rows.specs.Ops.{Ops, whole}
 use Rattle.ring.specs.Ring.{E, var, num, opposite, times, ring}
-use Rattle.manual.proofs.Formal.{formal}
+use Rattle.rows.specs.Formal.{formal}
 use Rattle.rows.specs.Rows.{Coefficient, plain, constant, Constant, one, minusOne, Cell, cell, hits}
 use Rattle.records.specs.AcNetwork.{AcNetwork}
-use Rattle.manual.specs.Slack.{scaled, sum, slack}
+use Rattle.rows.specs.Scaled.{scaled, sum}
+use Rattle.manual.specs.Slack.{slack}
 use Rattle.numbering.specs.declared.ColumnName.{ColumnName}
 use Rattle.numbering.specs.declared.ColumnName.the-variants.{Pg, Qg, W, Pf, Pt, Qf, Qt}
 use Rattle.numbering.specs.declared.RowName.the-variants.{Pbal, Qbal}
@@ -21,7 +22,7 @@ use Rattle.manual.specs.Balance.{joins, balance, mismatch}
 
 module _ (G : AcNetwork ℤ) (x : ColumnName → ℤ) where
   total : List (Cell ℤ) → ℤ
-  total ws = sum whole (pos 1) x ws
+  total ws = sum whole x (pos 1) ws
 
   total-append : (us vs : List (Cell ℤ)) → total (us ++ vs) ≡ total us +ℤ total vs
   unfolding total

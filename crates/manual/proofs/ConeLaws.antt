@@ -9,12 +9,13 @@ use lib.IntN.{ℤ, pos, negℤ, _+ℤ_, _-ℤ_, _*ℤ_}
 use lib.Signed.{_≤ℤ_}
 use Rattle.rows.specs.Ops.{whole}
 use Rattle.ring.specs.Ring.{E, var, num, plus, minus, times, opposite, ring}
-use Rattle.manual.proofs.Formal.{formal}
+use Rattle.rows.specs.Formal.{formal}
 use Rattle.ring.specs.Order.{by-twice, by-fourfold}
 use Rattle.manual.specs.Clarabel.{SecondOrder, Nonnegative, squares}
 use Rattle.rows.specs.Rows.{Coefficient, plain, constant, Constant, one, minusOne, half, minusHalf, Cell, cell, ends}
 use Rattle.records.specs.AcNetwork.{AcNetwork}
-use Rattle.manual.specs.Slack.{scaled, slackOf, slack}
+use Rattle.rows.specs.Scaled.{scaled}
+use Rattle.manual.specs.Slack.{slackOf, slack}
 use Rattle.numbering.specs.Numbering.{columnKey}
 use Rattle.numbering.specs.declared.ColumnName.{ColumnName}
 use Rattle.numbering.specs.declared.ColumnName.the-variants.{Pg, Qg, W, Wr, Wi, Pf, Pt, Qf, Qt, CostOf}

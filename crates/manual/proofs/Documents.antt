@@ -7,12 +7,13 @@ use Rattle.numbering.specs.declared.ColumnName.{ColumnName}
 use Rattle.numbering.specs.declared.RowName.{RowName}
 use Rattle.rows.specs.Ops.{Ops, whole}
 use Rattle.ring.specs.Ring.{E, var, ring}
-use Rattle.manual.proofs.Formal.{formal}
+use Rattle.rows.specs.Formal.{formal}
 use Rattle.manual.specs.Matpower.{Complex, _⊗_, conj, real, square}
 use Rattle.manual.specs.Slack.{slack}
 use Rattle.manual.specs.Flows.{pointAt}
 use Rattle.manual.specs.Clarabel.{Nonnegative}
 use Rattle.manual.specs.Documents.{FromManual, FromClarabel, Idle, wub, wlb, pgub, pglb, qgub, qglb, angub, anglb}
+use Rattle.rows.proofs.Multiplied.{multiplied}
 use Rattle.manual.proofs.RatioLaws.{ratio-law}
 use Rattle.manual.proofs.OhmLaws.{ohm-law, power-law, row-is, at-voltages}
 use Rattle.manual.proofs.BalanceLaws.{pbal-law, qbal-law}
@@ -42,6 +43,7 @@ module _ (G : AcNetwork ℤ) (x : ColumnName → ℤ) where
   pub from-manual : FromManual G x
   from-manual =
       record {
+        multiplied = multiplied;
         ybr = ratio-law;
         powers = power-law;
         ohm = λ e r s. row-is G x e r ∙ ohm-law (G .branch e) (pointAt G x e) r (s .gfr) (s .gto) (s .bfr);

@@ -1,4 +1,3 @@
-pub mod Formal
 pub mod RatioLaws
 pub mod OhmLaws
 pub mod BalanceLaws

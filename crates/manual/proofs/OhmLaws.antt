@@ -5,7 +5,7 @@ use mathlib.Core.List.{List, [], _∷_}
 use lib.IntN.{ℤ, pos, _-ℤ_, _*ℤ_}
 use Rattle.rows.specs.Ops.{Ops, whole}
 use Rattle.ring.specs.Ring.{E, var, ring}
-use Rattle.manual.proofs.Formal.{formal}
+use Rattle.rows.specs.Formal.{formal}
 use Rattle.rows.specs.Rows.{OhmRow, pf, qf, pt, qt, OhmPlace, w, wr, wi, flow, ohm, ohmRow, flowColumn, ends}
 use Rattle.records.specs.AcNetwork.{Branch, AcNetwork}
 use Rattle.manual.specs.Matpower.{Complex, Line, sf, st, sfW, stW, conj, _⊗_, square}

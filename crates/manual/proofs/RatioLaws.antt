@@ -4,7 +4,7 @@ use mathlib.Core.List.{List, [], _∷_}
 use lib.IntN.{ℤ}
 use Rattle.rows.specs.Ops.{Ops, whole}
 use Rattle.ring.specs.Ring.{E, var, ring}
-use Rattle.manual.proofs.Formal.{formal}
+use Rattle.rows.specs.Formal.{formal}
 use Rattle.manual.specs.Matpower.{Complex, Line, square, tap}
 use Rattle.manual.specs.Ratios.{Entry, ff, ft, tf, tt′, left, right}
 

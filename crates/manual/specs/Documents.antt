@@ -15,7 +15,8 @@ use Rattle.numbering.specs.declared.ColumnName.the-variants.{Pg, Qg, W, Wr, Wi,
 use Rattle.numbering.specs.declared.RowName.{RowName}
 use Rattle.numbering.specs.declared.RowName.the-variants.{Pbal, Qbal, Wub, Wlb, Pgub, Pglb, Qgub, Qglb, Angub, Anglb, Segment, Jabr, Thermal}
 use Rattle.rows.specs.Ops.{whole}
-use Rattle.rows.specs.Rows.{OhmRow, flow, ohmRow, flowColumn}
+use Rattle.rows.specs.Rows.{Coefficient, OhmRow, flow, ohmRow, flowColumn}
+use Rattle.rows.specs.Scaled.{fractionOf, scaled}
 use Rattle.manual.specs.Matpower.{Complex, Line, _⊗_, conj, real, square, tap}
 use Rattle.manual.specs.Ratios.{Entry, left, right}
 use Rattle.manual.specs.Slack.{slack}
@@ -31,6 +32,8 @@ pub record Symmetric (t : Branch ℤ) : Type 0 where
 
 -- ---- the MATPOWER manual
 pub record FromManual (G : AcNetwork ℤ) (x : ColumnName → ℤ) : Type 0 where
+  -- a coefficient, multiplied out, is 2 τ² times the quotient that the code computes
+  pub multiplied : (tm2 : ℤ) (c : Coefficient ℤ) → scaled whole tm2 c *ℤ fractionOf whole tm2 c .denominator ≡ pos 2 *ℤ tm2 *ℤ fractionOf whole tm2 c .numerator
   -- (3.2): the multiplied-out Ybr is the manual's, where |τ e^(jθ)|² is τ²
   pub ybr : (l : Line ℤ) → square whole (tap whole l) ≡ l .tm2 → (e : Entry) → left whole l e ≡ right whole l e
   -- section 3.6: S_f and S_t of the voltages, and of w_f = |v_f|², w_t = |v_t|² and c = v_f conj(v_t)

@@ -4,7 +4,7 @@ use Rattle.rows.specs.Ops.{Ops}
 use Rattle.rows.specs.Rows.{OhmRow, pf, qf, pt, qt, OhmPlace, w, wr, wi, flow, ohm}
 use Rattle.records.specs.AcNetwork.{Branch, AcNetwork}
 use Rattle.manual.specs.Matpower.{Complex, Line, sf, st, sfW, stW, conj, _⊗_, square}
-use Rattle.manual.specs.Slack.{scaled}
+use Rattle.rows.specs.Scaled.{scaled}
 use Rattle.numbering.specs.declared.ColumnName.{ColumnName}
 use Rattle.numbering.specs.declared.ColumnName.the-variants.{W, Wr, Wi, Pf, Pt, Qf, Qt}
 

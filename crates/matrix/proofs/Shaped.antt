@@ -11,9 +11,8 @@ use Rattle.numbering.specs.declared.ColumnName.the-variants.{Pg, Qg, W, Wr, Wi,
 use Rattle.numbering.specs.declared.RowName.{RowName}
 use Rattle.numbering.specs.declared.RowName.the-variants.{Pbal, Qbal, OhmPf, OhmQf, OhmPt, OhmQt, Wub, Wlb, Pgub, Pglb, Qgub, Qglb, Angub, Anglb, Segment, Jabr, Thermal}
 use Rattle.rows.specs.Ops.{rounded}
-use Rattle.rows.specs.Rows.{Constant, one, minusOne, half, minusHalf, constant64, Term, term, kept, terms, written, writtenCell, single, cell, plain, constant, OhmRow, pf, qf, pt, qt, w, wr, wi, flow, flowColumn, endBus}
+use Rattle.rows.specs.Rows.{Constant, one, minusOne, half, minusHalf, constant64, Term, term, kept, terms, written, writtenCell, single, cell, plain, constant, OhmRow, pf, qf, pt, qt, w, wr, wi, flow, ohmValue, flowColumn, endBus}
 use Rattle.rows.proofs.Shape.{hitTerms, endTerms, pbal-terms, qbal-terms, jabr-first, jabr-last, written-when}
-use Rattle.matrix.specs.Columns.{ohmValue}
 
 -- one term
 unfoldable pub sole : ColumnName → Float → List Term

@@ -2,26 +2,16 @@
 use Prim.Native.Nat.{ℕ, _+_}
 use mathlib.Core.List.{List, [], _∷_, _++_}
 use lib.Dec.{eqb}
-use lib.Ieee.{Float, binary64, neg, ne, div}
+use lib.Ieee.{Float, neg, ne}
 use Rattle.lists.specs.UpTo.{each, when}
 use Rattle.lists.specs.Entries.{Cell, cell}
-use Rattle.records.specs.AcNetwork.{Branch, AcNetwork}
+use Rattle.records.specs.AcNetwork.{AcNetwork}
 use Rattle.numbering.specs.Numbering.{rowNumber}
 use Rattle.numbering.specs.declared.ColumnName.{ColumnName}
 use Rattle.numbering.specs.declared.ColumnName.the-variants.{Pg, Qg, W, Wr, Wi, Pf, Pt, Qf, Qt, CostOf}
 use Rattle.numbering.specs.declared.RowName.{RowName}
 use Rattle.numbering.specs.declared.RowName.the-variants.{Pbal, Qbal, Wub, Wlb, Pgub, Pglb, Qgub, Qglb, Angub, Anglb, Segment, Jabr, Thermal}
-use Rattle.rows.specs.Ops.{rounded}
-use Rattle.rows.specs.Rows.{Coefficient, plain, over, constant, one, minusOne, half, minusHalf, constant64, zero64, OhmRow, pf, qf, pt, qt, OhmPlace, w, wr, wi, flow, ohm, ohmRow, endBus}
-
--- a coefficient of an Ohm row as the code computes it
-abbrev pub valueOver : Float → Coefficient Float → Float
-valueOver tm2 (plain a) = a
-valueOver tm2 (over a) = div binary64 a tm2
-valueOver tm2 (constant c) = constant64 c
-
-unfoldable pub ohmValue : Branch Float → OhmRow → OhmPlace → Float
-ohmValue t r p = valueOver (t .tm2) (ohm rounded t r p)
+use Rattle.rows.specs.Rows.{one, minusOne, half, minusHalf, constant64, zero64, OhmRow, pf, qf, pt, qt, OhmPlace, w, wr, wi, ohmValue, ohmRow, endBus}
 
 -- the balance row that an Ohm row's flow leaves by, and its place among a limited branch's rows
 abbrev pub balanceRow : OhmRow → ℕ → RowName

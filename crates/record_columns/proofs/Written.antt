@@ -19,14 +19,14 @@ use Rattle.numbering.specs.Numbering.{rowNumber}
 use Rattle.numbering.specs.Laid.{netOf, Laid}
 use Rattle.numbering.specs.declared.SocWrLayout.{SocWrLayout}
 use Rattle.numbering.specs.declared.RowName.the-variants.{Segment, Thermal}
-use Rattle.rows.specs.Rows.{wr, wi, minusOne, constant64}
-use Rattle.matrix.specs.Columns.{ohmValue, nonzeroCell, oneCell, slopeCell, costCell, costCells, ohmCells}
+use Rattle.rows.specs.Rows.{wr, wi, ohmValue, zero64, minusOne, constant64}
+use Rattle.matrix.specs.Columns.{nonzeroCell, oneCell, slopeCell, costCell, costCells, ohmCells}
 use Rattle.branch.specs.declared.Series.{Series}
-use Rattle.coefficients.specs.declared.Products.{Products}
+use Rattle.branch.specs.declared.Products.{Products}
 use Rattle.cells.specs.Columns.{Columns}
 use Rattle.cells.proofs.Ends.{columns-turn}
 use Rattle.branch.specs.Series.{seriesOf}
-use Rattle.coefficients.specs.Ohm.{branchFrom, productsOf}
+use Rattle.branch.specs.Ohm.{branchWith, productsOf}
 use Rattle.record_columns.specs.Writers.{slopes, ones, products, costTurn}
 
 one-or-none : {A : Type 0} (b : Bool) (x : A) → length (when b (x ∷ [])) ≡ bit b
@@ -68,11 +68,11 @@ module _ (l : SocWrLayout) (bytes : List ℕ) where
   unfolding costTurn
   turned g h e k = columns-turn (costTurn G) h e k
 
-  pub wr-are : (e : ℕ) {p : Products} {x : Series} → p ≡ productsOf (branchFrom x) wr → x ≡ seriesOf (G .branch e) → products G e p ≡ ohmCells G wr e
+  pub wr-are : (e : ℕ) {p : Products} {x : Series} → p ≡ productsOf (branchWith x zero64) wr → x ≡ seriesOf (G .branch e) → products G e p ≡ ohmCells G wr e
   unfolding products ohmCells ohmValue
   wr-are e p q = rw (p, q)
 
-  pub wi-are : (e : ℕ) {p : Products} {x : Series} → p ≡ productsOf (branchFrom x) wi → x ≡ seriesOf (G .branch e) → products G e p ≡ ohmCells G wi e
+  pub wi-are : (e : ℕ) {p : Products} {x : Series} → p ≡ productsOf (branchWith x zero64) wi → x ≡ seriesOf (G .branch e) → products G e p ≡ ohmCells G wi e
   unfolding products ohmCells ohmValue
   wi-are e p q = rw (p, q)
 

@@ -10,7 +10,7 @@ use Rattle.records.specs.Fields.{slopeOf}
 use Rattle.numbering.specs.declared.RowName.the-variants.{Pbal, OhmPf, OhmQf, OhmPt, OhmQt, Pgub, Pglb, Angub, Anglb}
 use Rattle.rows.specs.Rows.{one, minusOne, constant64}
 use Rattle.matrix.specs.Columns.{oneCell, nonzeroCell, at, keep, costCells}
-use Rattle.coefficients.specs.declared.Products.{Products}
+use Rattle.branch.specs.declared.Products.{Products}
 
 unfoldable pub bounds : Bool → ℕ → ℕ → List Cell
 bounds on u l = when on (oneCell u (constant64 one) ++ oneCell l (constant64 minusOne))

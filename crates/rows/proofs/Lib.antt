@@ -1,2 +1,3 @@
 pub mod TermsUp
 pub mod Shape
+pub mod Multiplied

@@ -6,14 +6,14 @@ use mathlib.Core.List.{List, [], _∷_, _++_, map}
 use native.Mathlib.Omega.{arith}
 use lib.ListN.{getD, length, length-append}
 use lib.Dec.{eqb}
-use lib.Ieee.{Float, ne, div, binary64}
+use lib.Ieee.{Float, ne}
 use Rattle.lists.specs.UpTo.{upTo, each, when}
 use Rattle.lists.specs.Entries.{entry}
 use Rattle.lists.proofs.Ascending.{Asc, asc-from}
 use Rattle.rows.specs.Ops.{rounded}
 use Rattle.records.specs.AcNetwork.{AcNetwork}
 use Rattle.numbering.specs.Numbering.{columnNumber}
-use Rattle.rows.specs.Rows.{Coefficient, plain, over, constant, Constant, Cell, cell, hits, cells, under, zero64, Term, term, kept, written, writtenCell, terms}
+use Rattle.rows.specs.Rows.{Coefficient, plain, over, constant, Constant, Cell, cell, hits, cells, under, zero64, value64, Term, term, kept, written, writtenCell, terms}
 use Rattle.numbering.specs.declared.ColumnName.{ColumnName}
 use Rattle.numbering.specs.declared.RowName.{RowName}
 
@@ -81,7 +81,7 @@ module _ {G : AcNetwork Float} where
       → Asc r lo hi (map (λ t. entry r (columnNumber G (t .col)) (g t)) (written tm2 cs))
   written-up r tm2 g (stop h) = Asc.stop h
   written-up r tm2 g (more {c = c} {v = plain a} {cs = cs} h t) = kept-up G c a (written tm2 cs) g h (written-up r tm2 g t)
-  written-up r tm2 g (more {c = c} {v = over a} {cs = cs} h t) = kept-up G c (div binary64 a tm2) (written tm2 cs) g h (written-up r tm2 g t)
+  written-up r tm2 g (more {c = c} {v = over a} {cs = cs} h t) = kept-up G c (value64 tm2 (over a)) (written tm2 cs) g h (written-up r tm2 g t)
   written-up r tm2 g (more {c = c} {v = constant k} h t) = Asc.more h (written-up r tm2 g t)
 
   pub up-entries : {lo hi : ℕ} (x : RowName) (r : ℕ) (g : Term → Float) → Up G lo hi (cells rounded G x)
@@ -97,7 +97,7 @@ when-le false xs = omega arith
 cell-le : (tm2 : Float) (c : ColumnName) (v : Coefficient Float) → length (writtenCell tm2 c v) ≤ 1
 unfolding kept
 cell-le tm2 c (plain a) = when-le (ne a zero64) (term c a ∷ [])
-cell-le tm2 c (over a) = when-le (ne (div binary64 a tm2) zero64) (term c (div binary64 a tm2) ∷ [])
+cell-le tm2 c (over a) = when-le (ne (value64 tm2 (over a)) zero64) (term c (value64 tm2 (over a)) ∷ [])
 cell-le tm2 c (constant k) = omega arith
 
 written-le : (tm2 : Float) (cs : List (Cell Float)) → length (written tm2 cs) ≤ length cs

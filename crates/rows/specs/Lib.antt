@@ -1,3 +1,5 @@
 pub mod Ops
+pub mod Formal
 pub mod Rows
+pub mod Scaled
 pub mod Program

@@ -14,13 +14,24 @@ use Rattle.numbering.specs.declared.ColumnName.the-variants.{Pg, Qg, W, Wr, Wi,
 use Rattle.numbering.specs.declared.RowName.{RowName}
 use Rattle.numbering.specs.declared.RowName.the-variants.{Pbal, Qbal, OhmPf, OhmQf, OhmPt, OhmQt, Wub, Wlb, Pgub, Pglb, Qgub, Qglb, Angub, Anglb, Segment, Jabr, Thermal}
 
--- ---- coefficients: a number as it stands, a number over tm2, or a constant of the code
+-- ---- coefficients: a number as it stands, a number over the row's tm2 (`under`), or a constant of the code
 pub data Constant : Type 0 where
   one minusOne half minusHalf : Constant
 
 pub data Coefficient (A : Type 0) : Type 0 where
   plain over : A → Coefficient A
   constant : Constant → Coefficient A
+
+-- what a coefficient can be read as, and the one way to read it: which number stands over which is said here alone
+pub record Reading (A B : Type 0) : Type 0 where
+  pub number : A → B
+  pub _/_ : A → A → B
+  pub fixed : Constant → B
+
+abbrev pub read : {A B : Type 0} → Reading A B → A → Coefficient A → B
+read r tm2 (plain a) = r .number a
+read r tm2 (over a) = r ._/_ a tm2
+read r tm2 (constant c) = r .fixed c
 
 -- a column and the coefficient there
 pub record Cell (A : Type 0) : Type 0 where
@@ -190,6 +201,16 @@ constant64 minusOne = Ieee.neg (ofBits binary64 0x3ff0000000000000)
 constant64 half = ofBits binary64 0x3fe0000000000000
 constant64 minusHalf = Ieee.neg (ofBits binary64 0x3fe0000000000000)
 
+-- a coefficient as the code computes it
+abbrev pub computed : Reading Float Float
+computed = record { number = λ a. a; _/_ = div binary64; fixed = constant64 }
+
+abbrev pub value64 : Float → Coefficient Float → Float
+value64 = read computed
+
+unfoldable pub ohmValue : Branch Float → OhmRow → OhmPlace → Float
+ohmValue t r p = value64 (t .tm2) (ohm rounded t r p)
+
 pub record Term : Type 0 where
   pub col : ColumnName
   pub coef : Float
@@ -202,9 +223,9 @@ unfoldable pub kept : ColumnName → Float → List Term
 kept c v = when (ne v zero64) (term c v ∷ [])
 
 abbrev pub writtenCell : Float → ColumnName → Coefficient Float → List Term
-writtenCell tm2 c (plain a) = kept c a
-writtenCell tm2 c (over a) = kept c (div binary64 a tm2)
-writtenCell tm2 c (constant v) = term c (constant64 v) ∷ []
+writtenCell tm2 c (plain a) = kept c (value64 tm2 (plain a))
+writtenCell tm2 c (over a) = kept c (value64 tm2 (over a))
+writtenCell tm2 c (constant v) = term c (value64 tm2 (constant v)) ∷ []
 
 abbrev pub written : Float → List (Cell Float) → List Term
 written tm2 [] = []

@@ -1,6 +1,7 @@
 // The coefficients of the branches' buses in the Ohm rows, gathered in one pass over the branches.
-use coefficients::OhmRow;
-use coefficients::inner::w_value;
+use branch::OhmRow;
+use branch::inner::ohm::w_at;
+use branch::inner::series;
 use numbering::SocWrLayout;
 ghost use Prim.Native.Nat.{_+_, _*_, _≤_, _<_};
 ghost use lib.ListN.{length};
@@ -16,10 +17,11 @@ fn put_four(vals: &mut [f64], at: usize, l: SocWrLayout, bytes: &[u8], e: usize)
     ensures { λ _. ⌜ Filled (fourOf (netOf l (now (bytes .entry))) e) (now (vals .entry)) at (now (vals .exit)) ⌝ }
 {
     let r = l.n + e;
-    let pf = w_value(OhmRow::Pf, bytes, r);
-    let qf = w_value(OhmRow::Qf, bytes, r);
-    let pt = w_value(OhmRow::Pt, bytes, r);
-    let qt = w_value(OhmRow::Qt, bytes, r);
+    let t = series(bytes, r);
+    let pf = w_at(OhmRow::Pf, t, bytes, r);
+    let qf = w_at(OhmRow::Qf, t, bytes, r);
+    let pt = w_at(OhmRow::Pt, t, bytes, r);
+    let qt = w_at(OhmRow::Qt, t, bytes, r);
     vals[at] = pf;
     vals[at + 1] = qf;
     vals[at + 2] = pt;

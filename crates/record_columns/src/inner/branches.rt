@@ -1,16 +1,16 @@
 // The branch columns of A.
 use super::generators::put_bounds;
+use branch::OhmRow;
+use branch::Products;
 use branch::inner::conic_angle_bound_active;
+use branch::inner::ohm::wi_products;
+use branch::inner::ohm::wr_products;
+use branch::inner::places::end_bus;
+use branch::inner::places::ohm_row;
 use branch::inner::series;
-use bus_columns::inner::end_bus;
-use bus_columns::inner::ohm_row;
 use cells::inner::put;
 use cells::inner::put_if;
 use cells::inner::put_nonzero;
-use coefficients::OhmRow;
-use coefficients::Products;
-use coefficients::inner::wi_products;
-use coefficients::inner::wr_products;
 use lists::inner::bit;
 use lists::inner::store_u32;
 use numbering::SocWrLayout;
@@ -21,7 +21,7 @@ ghost use Rattle.lists.specs.Compressed.{cellOut, WroteCells};
 ghost use Rattle.numbering.specs.Numbering.{rowNumber};
 ghost use Rattle.numbering.specs.Laid.{netOf, Laid};
 ghost use Rattle.matrix.specs.Columns.{wrCells, wiCells, flowCells, balanceRow, thermalPlace};
-ghost use Rattle.coefficients.specs.Ohm.{rowKind};
+ghost use Rattle.branch.specs.Ohm.{rowKind};
 ghost use Rattle.cells.specs.Columns.{Columns};
 ghost use Rattle.record_columns.specs.Writers.{wrAngles, products, flow};
 

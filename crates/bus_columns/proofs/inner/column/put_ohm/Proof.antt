@@ -11,9 +11,9 @@ use lib.ListN.{getD}
 use lib.Ieee.{nan}
 use Rattle.lists.proofs.Compressed.{wrote-none}
 use Rattle.numbering.specs.Laid.{netOf}
-use Rattle.rows.specs.Rows.{w}
-use Rattle.coefficients.specs.Ohm.{rowKind}
-use Rattle.matrix.specs.Columns.{ohmCell, ohmValue}
+use Rattle.rows.specs.Rows.{w, ohmValue}
+use Rattle.branch.specs.Ohm.{rowKind}
+use Rattle.matrix.specs.Columns.{ohmCell}
 use Rattle.bus_columns.specs.Ends.{sideOf, ohmEnd}
 use Rattle.bus_columns.proofs.inner.column.put_ohm.Statement.{statement}
 use Rattle.bus_columns.proofs.inner.column.put_ohm.Tie as tie

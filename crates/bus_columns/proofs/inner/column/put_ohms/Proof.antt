@@ -11,7 +11,7 @@ use Rattle.lists.specs.Compressed.{cellOut, WroteCells}
 use Rattle.lists.proofs.Each.{each-mono}
 use Rattle.lists.proofs.Compressed.{no-turn, turn, len-rows, len-vals, pos}
 use Rattle.numbering.specs.Laid.{netOf}
-use Rattle.coefficients.specs.Ohm.{rowKind}
+use Rattle.branch.specs.Ohm.{rowKind}
 use Rattle.cells.proofs.Ends.{cells-all}
 use Rattle.bus_columns.specs.Ends.{ohmEnd}
 use Rattle.bus_columns.proofs.Gathered.{still}

@@ -8,7 +8,7 @@ use Rattle.numbering.specs.Numbering.{rowNumber}
 use Rattle.numbering.specs.Laid.{netOf}
 use Rattle.numbering.specs.declared.RowName.the-variants.{Thermal}
 use Rattle.matrix.specs.Columns.{flowCells, thermalPlace, balanceRow}
-use Rattle.coefficients.specs.Ohm.{rowKind}
+use Rattle.branch.specs.Ohm.{rowKind}
 use Rattle.record_columns.specs.Writers.{flow}
 use Rattle.record_columns.proofs.Written.{thermal-row}
 use Rattle.record_columns.proofs.inner.branches.put_flow.Statement.{statement}

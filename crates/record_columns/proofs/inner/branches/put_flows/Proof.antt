@@ -9,7 +9,7 @@ use Rattle.lists.specs.Compressed.{cellOut}
 use Rattle.lists.proofs.Compressed.{len-rows, len-vals}
 use Rattle.lists.proofs.Sums.{sum-next, bit-le}
 use Rattle.matrix.specs.Columns.{flowCells}
-use Rattle.coefficients.specs.Ohm.{rowKind}
+use Rattle.branch.specs.Ohm.{rowKind}
 use Rattle.cells.specs.Columns.{Columns}
 use Rattle.cells.proofs.Ends.{columns-none, columns-more, columns-all, columns-starts}
 use Rattle.record_columns.proofs.inner.branches.put_flows.Statement.{statement}

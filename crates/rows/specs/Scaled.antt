@@ -1,0 +1,50 @@
+-- "Formulas are compared on whole numbers put for the floats, with each denominator and each half multiplied out": a coefficient as a fraction, and
+-- coefficients and rows of A 2 tm2 fold, over any operations. `Multiplied.multiplied` says that the two readings agree.
+use mathlib.Core.List.{List, [], _∷_}
+use Rattle.records.specs.AcNetwork.{AcNetwork}
+use Rattle.numbering.specs.declared.ColumnName.{ColumnName}
+use Rattle.numbering.specs.declared.RowName.{RowName}
+use Rattle.rows.specs.Ops.{Ops}
+use Rattle.rows.specs.Rows.{Constant, one, minusOne, half, minusHalf, Coefficient, Reading, read, Cell, cells, under}
+
+-- a fraction that is not worked out
+pub record Fraction (A : Type 0) : Type 0 where
+  pub numerator : A
+  pub denominator : A
+
+abbrev pub fraction : {A : Type 0} → A → A → Fraction A
+fraction a d = record { numerator = a; denominator = d }
+
+module _ {A : Type 0} (o : Ops A) where
+  infixl 60 _+_
+  infixl 70 _*_
+  open Ops o using (zero, two, neg, _+_, _*_)
+
+  -- a coefficient's numerator and denominator
+  abbrev pub constantFraction : Constant → Fraction A
+  constantFraction one = fraction (o .one) (o .one)
+  constantFraction minusOne = fraction (neg (o .one)) (o .one)
+  constantFraction half = fraction (o .one) two
+  constantFraction minusHalf = fraction (neg (o .one)) two
+
+  abbrev pub fractionOf : A → Coefficient A → Fraction A
+  fractionOf = read (record { number = λ a. fraction a (o .one); _/_ = fraction; fixed = constantFraction })
+
+  -- 2 tm2 times a coefficient: of a over tm2 it is 2 a
+  abbrev pub constantScaled : A → Constant → A
+  constantScaled tm2 one = two * tm2
+  constantScaled tm2 minusOne = neg (two * tm2)
+  constantScaled tm2 half = tm2
+  constantScaled tm2 minusHalf = neg tm2
+
+  abbrev pub scaled : A → Coefficient A → A
+  scaled tm2 = read (record { number = λ a. two * tm2 * a; _/_ = λ a d. two * a; fixed = constantScaled tm2 }) tm2
+
+  -- 2 tm2 times A x at row r, where x holds the columns' values
+  module _ (x : ColumnName → A) where
+    abbrev pub sum : A → List (Cell A) → A
+    sum tm2 [] = zero
+    sum tm2 (c ∷ cs) = scaled tm2 (c .value) * x (c .column) + sum tm2 cs
+
+    abbrev pub row : AcNetwork A → RowName → A
+    row G r = sum (under o G r) (cells o G r)
