@@ -57,32 +57,32 @@ module _ (l : SocWrLayout) (bytes : List ℕ) (h : Laid l bytes) where
   written-when false xs = refl
 
   pub wub-stands : (i : ℕ) → i < l .n → Stands G (Wub i)
-      (single (layoutRow l (Wub i)) (cond (voltageBoundOf bytes i) (mul binary64 (vmMaxOf bytes i) (vmMaxOf bytes i)) (constant64 one)) (voltageBoundOf bytes i) (layoutColumn l (W i)) (constant64 one))
+      (single (layoutRow l (Wub i)) (b G (Wub i)) (voltageBoundOf bytes i) (layoutColumn l (W i)) (constant64 one))
   unfolding terms b
   wub-stands i d = one-term (Wub i) (W i) one (voltageBoundOf bytes i) _ (λ r f. rw (written-when (voltageBoundOf bytes i))) refl (omega arith) (omega arith)
 
   pub wlb-stands : (i : ℕ) → i < l .n → Stands G (Wlb i)
-      (single (layoutRow l (Wlb i)) (cond (voltageBoundOf bytes i) (mul binary64 (neg (vmMinOf bytes i)) (vmMinOf bytes i)) (constant64 one)) (voltageBoundOf bytes i) (layoutColumn l (W i)) (constant64 minusOne))
+      (single (layoutRow l (Wlb i)) (b G (Wlb i)) (voltageBoundOf bytes i) (layoutColumn l (W i)) (constant64 minusOne))
   unfolding terms b
   wlb-stands i d = one-term (Wlb i) (W i) minusOne (voltageBoundOf bytes i) _ (λ r f. rw (written-when (voltageBoundOf bytes i))) refl (omega arith) (omega arith)
 
   pub pgub-stands : (g : ℕ) → g < l .k → Stands G (Pgub g)
-      (single (layoutRow l (Pgub g)) (cond (capabilityOf bytes (l .n + l .m + g)) (pmaxOf bytes (l .n + l .m + g)) (constant64 one)) (capabilityOf bytes (l .n + l .m + g)) (layoutColumn l (Pg g)) (constant64 one))
+      (single (layoutRow l (Pgub g)) (b G (Pgub g)) (capabilityOf bytes (l .n + l .m + g)) (layoutColumn l (Pg g)) (constant64 one))
   unfolding terms b
   pgub-stands g d = one-term (Pgub g) (Pg g) one (capabilityOf bytes (l .n + l .m + g)) _ (λ r f. rw (written-when (capabilityOf bytes (l .n + l .m + g)))) refl (omega arith) (omega arith)
 
   pub pglb-stands : (g : ℕ) → g < l .k → Stands G (Pglb g)
-      (single (layoutRow l (Pglb g)) (cond (capabilityOf bytes (l .n + l .m + g)) (neg (pminOf bytes (l .n + l .m + g))) (constant64 one)) (capabilityOf bytes (l .n + l .m + g)) (layoutColumn l (Pg g)) (constant64 minusOne))
+      (single (layoutRow l (Pglb g)) (b G (Pglb g)) (capabilityOf bytes (l .n + l .m + g)) (layoutColumn l (Pg g)) (constant64 minusOne))
   unfolding terms b
   pglb-stands g d = one-term (Pglb g) (Pg g) minusOne (capabilityOf bytes (l .n + l .m + g)) _ (λ r f. rw (written-when (capabilityOf bytes (l .n + l .m + g)))) refl (omega arith) (omega arith)
 
   pub qgub-stands : (g : ℕ) → g < l .k → Stands G (Qgub g)
-      (single (layoutRow l (Qgub g)) (cond (capabilityOf bytes (l .n + l .m + g)) (qmaxOf bytes (l .n + l .m + g)) (constant64 one)) (capabilityOf bytes (l .n + l .m + g)) (layoutColumn l (Qg g)) (constant64 one))
+      (single (layoutRow l (Qgub g)) (b G (Qgub g)) (capabilityOf bytes (l .n + l .m + g)) (layoutColumn l (Qg g)) (constant64 one))
   unfolding terms b
   qgub-stands g d = one-term (Qgub g) (Qg g) one (capabilityOf bytes (l .n + l .m + g)) _ (λ r f. rw (written-when (capabilityOf bytes (l .n + l .m + g)))) refl (omega arith) (omega arith)
 
   pub qglb-stands : (g : ℕ) → g < l .k → Stands G (Qglb g)
-      (single (layoutRow l (Qglb g)) (cond (capabilityOf bytes (l .n + l .m + g)) (neg (qminOf bytes (l .n + l .m + g))) (constant64 one)) (capabilityOf bytes (l .n + l .m + g)) (layoutColumn l (Qg g)) (constant64 minusOne))
+      (single (layoutRow l (Qglb g)) (b G (Qglb g)) (capabilityOf bytes (l .n + l .m + g)) (layoutColumn l (Qg g)) (constant64 minusOne))
   unfolding terms b
   qglb-stands g d = one-term (Qglb g) (Qg g) minusOne (capabilityOf bytes (l .n + l .m + g)) _ (λ r f. rw (written-when (capabilityOf bytes (l .n + l .m + g)))) refl (omega arith) (omega arith)
 
@@ -100,7 +100,7 @@ module _ (l : SocWrLayout) (bytes : List ℕ) (h : Laid l bytes) where
       go false q = refl
 
   pub angub-stands : (e : ℕ) → e < l .m → Stands G (Angub e)
-      (line (layoutRow l (Angub e)) (cond (angledOf bytes (l .n + e)) zero64 (constant64 one))
+      (line (layoutRow l (Angub e)) (b G (Angub e))
       (spot (angledOf bytes (l .n + e) && ne (neg (tanAngmaxOf bytes (l .n + e))) zero64) (layoutColumn l (Wr e)) (neg (tanAngmaxOf bytes (l .n + e)))) (spot (angledOf bytes (l .n + e)) (layoutColumn l (Wi e)) (constant64 one)))
   unfolding terms b lineAt
   angub-stands e d =
@@ -112,7 +112,7 @@ module _ (l : SocWrLayout) (bytes : List ℕ) (h : Laid l bytes) where
       }
 
   pub anglb-stands : (e : ℕ) → e < l .m → Stands G (Anglb e)
-      (line (layoutRow l (Anglb e)) (cond (angledOf bytes (l .n + e)) zero64 (constant64 one))
+      (line (layoutRow l (Anglb e)) (b G (Anglb e))
       (spot (angledOf bytes (l .n + e) && ne (tanAngminOf bytes (l .n + e)) zero64) (layoutColumn l (Wr e)) (tanAngminOf bytes (l .n + e))) (spot (angledOf bytes (l .n + e)) (layoutColumn l (Wi e)) (constant64 minusOne)))
   unfolding terms b lineAt
   anglb-stands e d =
@@ -151,7 +151,7 @@ module _ (l : SocWrLayout) (bytes : List ℕ) (h : Laid l bytes) where
 
   pub segment-stands : (g t row col : ℕ) → g < l .k → t < G .segments g → row ≡ rowNumber G (Segment g t) → col ≡ columnNumber G (CostOf g)
       → Stands G (Segment g t)
-      (line row (neg (G .intercept g t)) (spot (ne (G .slope g t) zero64) (layoutColumn l (Pg g)) (G .slope g t)) (spot true col (constant64 minusOne)))
+      (line row (b G (Segment g t)) (spot (ne (G .slope g t) zero64) (layoutColumn l (Pg g)) (G .slope g t)) (spot true col (constant64 minusOne)))
   unfolding terms b lineAt
   segment-stands g t row col d q hr hc =
       let one-more : bit (G .piecewise g) ≡ 1 = ap bit (sound (l .n) (l .m) (l .k) (l .s) bytes (h .accepted) .pieces g t d q) in

@@ -4,19 +4,16 @@ use mathlib.Core.Path.{_≡_, refl}
 use mathlib.Core.Bool.{Bool, true, false}
 use mathlib.Core.List.{List, [], _∷_, _++_, map, map-append, append-assoc}
 use native.Mathlib.Omega.{arith}
-use lib.Ieee.{Float, binary64, ne, neg, add, sub, mul, div}
+use lib.Ieee.{Float, ne}
 use Rattle.lists.specs.UpTo.{when}
 use Rattle.lists.specs.Entries.{entry}
 use Rattle.records.specs.AcNetwork.{AcNetwork}
-use Rattle.records.specs.Network.{branchOf}
-use Rattle.numbering.specs.Numbering.{columnNumber}
-use Rattle.numbering.specs.Layout.{layoutColumn, layoutRow}
+use Rattle.numbering.specs.Numbering.{columnNumber, rowNumber}
 use Rattle.numbering.specs.Laid.{netOf, Laid}
 use Rattle.numbering.specs.declared.SocWrLayout.{SocWrLayout}
 use Rattle.numbering.specs.declared.ColumnName.{ColumnName}
 use Rattle.numbering.specs.declared.ColumnName.the-variants.{W, Wr, Wi, Pf, Pt, Qf, Qt}
-use Rattle.numbering.specs.declared.RowName.the-variants.{OhmPf, OhmQf, OhmPt, OhmQt}
-use Rattle.rows.specs.Rows.{terms, term, kept, zero64, constant64, one}
+use Rattle.rows.specs.Rows.{terms, term, kept, zero64, constant64, one, OhmRow, pf, qf, pt, qt, w, wr, wi, ohmValue, ohmRow, flowColumn, endBus}
 use Rattle.rows.specs.Program.{inRow, nonzero}
 use Rattle.lines.specs.Ohm.{ohmOf, ohmAt, OhmStands}
 
@@ -38,34 +35,11 @@ module _ (l : SocWrLayout) (bytes : List ℕ) (h : Laid l bytes) where
   abbrev G : AcNetwork Float
   G = netOf l bytes
 
-  pub pf-stands : (e : ℕ) → e < l .m → OhmStands G (OhmPf e)
-      (ohmOf l e (G .from e) (layoutRow l (OhmPf e)) (layoutColumn l (Pf e))
-      (div binary64 (neg (add binary64 (branchOf bytes (l .n + e) .g) (branchOf bytes (l .n + e) .gfr))) (branchOf bytes (l .n + e) .tm2))
-      (div binary64 (neg (add binary64 (mul binary64 (neg (branchOf bytes (l .n + e) .g)) (branchOf bytes (l .n + e) .tr)) (mul binary64 (branchOf bytes (l .n + e) .b) (branchOf bytes (l .n + e) .ti)))) (branchOf bytes (l .n + e) .tm2))
-      (div binary64 (neg (sub binary64 (mul binary64 (neg (branchOf bytes (l .n + e) .b)) (branchOf bytes (l .n + e) .tr)) (mul binary64 (branchOf bytes (l .n + e) .g) (branchOf bytes (l .n + e) .ti)))) (branchOf bytes (l .n + e) .tm2)))
-  unfolding terms ohmAt
-  pf-stands e d = record { number = refl; entries = λ r. in-four G r (W (G .from e)) (Wr e) (Wi e) (Pf e) _ _ _; within = omega arith }
-
-  pub qf-stands : (e : ℕ) → e < l .m → OhmStands G (OhmQf e)
-      (ohmOf l e (G .from e) (layoutRow l (OhmQf e)) (layoutColumn l (Qf e))
-      (div binary64 (add binary64 (branchOf bytes (l .n + e) .b) (branchOf bytes (l .n + e) .bfr)) (branchOf bytes (l .n + e) .tm2))
-      (div binary64 (sub binary64 (mul binary64 (neg (branchOf bytes (l .n + e) .b)) (branchOf bytes (l .n + e) .tr)) (mul binary64 (branchOf bytes (l .n + e) .g) (branchOf bytes (l .n + e) .ti))) (branchOf bytes (l .n + e) .tm2))
-      (div binary64 (neg (add binary64 (mul binary64 (neg (branchOf bytes (l .n + e) .g)) (branchOf bytes (l .n + e) .tr)) (mul binary64 (branchOf bytes (l .n + e) .b) (branchOf bytes (l .n + e) .ti)))) (branchOf bytes (l .n + e) .tm2)))
-  unfolding terms ohmAt
-  qf-stands e d = record { number = refl; entries = λ r. in-four G r (W (G .from e)) (Wr e) (Wi e) (Qf e) _ _ _; within = omega arith }
-
-  pub pt-stands : (e : ℕ) → e < l .m → OhmStands G (OhmPt e)
-      (ohmOf l e (G .to e) (layoutRow l (OhmPt e)) (layoutColumn l (Pt e))
-      (neg (add binary64 (branchOf bytes (l .n + e) .g) (branchOf bytes (l .n + e) .gto)))
-      (div binary64 (neg (sub binary64 (mul binary64 (neg (branchOf bytes (l .n + e) .g)) (branchOf bytes (l .n + e) .tr)) (mul binary64 (branchOf bytes (l .n + e) .b) (branchOf bytes (l .n + e) .ti)))) (branchOf bytes (l .n + e) .tm2))
-      (div binary64 (add binary64 (mul binary64 (neg (branchOf bytes (l .n + e) .b)) (branchOf bytes (l .n + e) .tr)) (mul binary64 (branchOf bytes (l .n + e) .g) (branchOf bytes (l .n + e) .ti))) (branchOf bytes (l .n + e) .tm2)))
-  unfolding terms ohmAt
-  pt-stands e d = record { number = refl; entries = λ r. in-four G r (W (G .to e)) (Wr e) (Wi e) (Pt e) _ _ _; within = omega arith }
-
-  pub qt-stands : (e : ℕ) → e < l .m → OhmStands G (OhmQt e)
-      (ohmOf l e (G .to e) (layoutRow l (OhmQt e)) (layoutColumn l (Qt e))
-      (add binary64 (branchOf bytes (l .n + e) .b) (branchOf bytes (l .n + e) .bto))
-      (div binary64 (add binary64 (mul binary64 (neg (branchOf bytes (l .n + e) .b)) (branchOf bytes (l .n + e) .tr)) (mul binary64 (branchOf bytes (l .n + e) .g) (branchOf bytes (l .n + e) .ti))) (branchOf bytes (l .n + e) .tm2))
-      (div binary64 (sub binary64 (mul binary64 (neg (branchOf bytes (l .n + e) .g)) (branchOf bytes (l .n + e) .tr)) (mul binary64 (branchOf bytes (l .n + e) .b) (branchOf bytes (l .n + e) .ti))) (branchOf bytes (l .n + e) .tm2)))
-  unfolding terms ohmAt
-  qt-stands e d = record { number = refl; entries = λ r. in-four G r (W (G .to e)) (Wr e) (Wi e) (Qt e) _ _ _; within = omega arith }
+  -- each row by its own case: its terms compute to the four
+  pub ohm-stands : (k : OhmRow) (e : ℕ) → e < l .m → OhmStands G (ohmRow k e)
+      (ohmOf l e (endBus G k e) (rowNumber G (ohmRow k e)) (columnNumber G (flowColumn k e)) (ohmValue (G .branch e) k w) (ohmValue (G .branch e) k wr) (ohmValue (G .branch e) k wi))
+  unfolding terms ohmAt ohmValue
+  ohm-stands pf e d = record { number = refl; entries = λ r. in-four G r (W (G .from e)) (Wr e) (Wi e) (Pf e) _ _ _; within = omega arith }
+  ohm-stands qf e d = record { number = refl; entries = λ r. in-four G r (W (G .from e)) (Wr e) (Wi e) (Qf e) _ _ _; within = omega arith }
+  ohm-stands pt e d = record { number = refl; entries = λ r. in-four G r (W (G .to e)) (Wr e) (Wi e) (Pt e) _ _ _; within = omega arith }
+  ohm-stands qt e d = record { number = refl; entries = λ r. in-four G r (W (G .to e)) (Wr e) (Wi e) (Qt e) _ _ _; within = omega arith }

@@ -1,9 +1,8 @@
 // The angle bounds.
 use super::line;
-use super::pick;
 use super::spot;
 use crate::Line;
-use branch::inner::conic_angle_bound_active;
+use bounds::inner::angle;
 use numbering::SocWrLayout;
 use numbering::inner::col_wi;
 use numbering::inner::col_wr;
@@ -22,14 +21,13 @@ pub fn angub(l: SocWrLayout, bytes: &[u8], e: usize) -> Line
     ensures { λ r. ⌜ Stands (netOf l (now (bytes .entry))) (Angub e) r ⌝ }
 {
     let r = l.n + e;
-    let on = conic_angle_bound_active(bytes, r);
+    let s = angle(l, bytes, e);
     let v = -tan_angmax(bytes, r);
-    let rhs = pick(on, 0.0, 1.0);
     line(
         r_angub(l, e),
-        rhs,
-        spot(on & (v != 0.0), col_wr(l, e), v),
-        spot(on, col_wi(l, e), 1.0),
+        s.rhs,
+        spot(s.on & (v != 0.0), col_wr(l, e), v),
+        spot(s.on, col_wi(l, e), 1.0),
     )
 }
 
@@ -39,13 +37,12 @@ pub fn anglb(l: SocWrLayout, bytes: &[u8], e: usize) -> Line
     ensures { λ r. ⌜ Stands (netOf l (now (bytes .entry))) (Anglb e) r ⌝ }
 {
     let r = l.n + e;
-    let on = conic_angle_bound_active(bytes, r);
+    let s = angle(l, bytes, e);
     let v = tan_angmin(bytes, r);
-    let rhs = pick(on, 0.0, 1.0);
     line(
         r_anglb(l, e),
-        rhs,
-        spot(on & (v != 0.0), col_wr(l, e), v),
-        spot(on, col_wi(l, e), -1.0),
+        s.rhs,
+        spot(s.on & (v != 0.0), col_wr(l, e), v),
+        spot(s.on, col_wi(l, e), -1.0),
     )
 }

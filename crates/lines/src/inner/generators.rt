@@ -1,9 +1,13 @@
 // The generators' bounds, and the segments of their costs.
 use super::line;
-use super::pick;
 use super::single;
 use super::spot;
 use crate::Line;
+use bounds::inner::lower_active;
+use bounds::inner::lower_reactive;
+use bounds::inner::segment_side;
+use bounds::inner::upper_active;
+use bounds::inner::upper_reactive;
 use numbering::SocWrLayout;
 use numbering::inner::col_pg;
 use numbering::inner::col_qg;
@@ -13,12 +17,6 @@ use numbering::inner::r_pgub;
 use numbering::inner::r_qglb;
 use numbering::inner::r_qgub;
 use numbering::inner::segment_base;
-use records::inner::generator_capability_active;
-use records::inner::intercept;
-use records::inner::pmax;
-use records::inner::pmin;
-use records::inner::qmax;
-use records::inner::qmin;
 use records::inner::slope;
 ghost use mathlib.Core.Path.{_≡_};
 ghost use Prim.Native.Nat.{_<_};
@@ -32,11 +30,8 @@ pub fn pgub(l: SocWrLayout, bytes: &[u8], g: usize) -> Line
     requires { ⌜ g < l .k ⌝ }
     ensures { λ r. ⌜ Stands (netOf l (now (bytes .entry))) (Pgub g) r ⌝ }
 {
-    let r = l.n + l.m + g;
-    let on = generator_capability_active(bytes, r);
-    let x = pmax(bytes, r);
-    let rhs = pick(on, x, 1.0);
-    single(r_pgub(l, g), rhs, on, col_pg(l, g), 1.0)
+    let s = upper_active(l, bytes, g);
+    single(r_pgub(l, g), s.rhs, s.on, col_pg(l, g), 1.0)
 }
 
 pub fn pglb(l: SocWrLayout, bytes: &[u8], g: usize) -> Line
@@ -44,11 +39,8 @@ pub fn pglb(l: SocWrLayout, bytes: &[u8], g: usize) -> Line
     requires { ⌜ g < l .k ⌝ }
     ensures { λ r. ⌜ Stands (netOf l (now (bytes .entry))) (Pglb g) r ⌝ }
 {
-    let r = l.n + l.m + g;
-    let on = generator_capability_active(bytes, r);
-    let x = pmin(bytes, r);
-    let rhs = pick(on, -x, 1.0);
-    single(r_pglb(l, g), rhs, on, col_pg(l, g), -1.0)
+    let s = lower_active(l, bytes, g);
+    single(r_pglb(l, g), s.rhs, s.on, col_pg(l, g), -1.0)
 }
 
 pub fn qgub(l: SocWrLayout, bytes: &[u8], g: usize) -> Line
@@ -56,11 +48,8 @@ pub fn qgub(l: SocWrLayout, bytes: &[u8], g: usize) -> Line
     requires { ⌜ g < l .k ⌝ }
     ensures { λ r. ⌜ Stands (netOf l (now (bytes .entry))) (Qgub g) r ⌝ }
 {
-    let r = l.n + l.m + g;
-    let on = generator_capability_active(bytes, r);
-    let x = qmax(bytes, r);
-    let rhs = pick(on, x, 1.0);
-    single(r_qgub(l, g), rhs, on, col_qg(l, g), 1.0)
+    let s = upper_reactive(l, bytes, g);
+    single(r_qgub(l, g), s.rhs, s.on, col_qg(l, g), 1.0)
 }
 
 pub fn qglb(l: SocWrLayout, bytes: &[u8], g: usize) -> Line
@@ -68,11 +57,8 @@ pub fn qglb(l: SocWrLayout, bytes: &[u8], g: usize) -> Line
     requires { ⌜ g < l .k ⌝ }
     ensures { λ r. ⌜ Stands (netOf l (now (bytes .entry))) (Qglb g) r ⌝ }
 {
-    let r = l.n + l.m + g;
-    let on = generator_capability_active(bytes, r);
-    let x = qmin(bytes, r);
-    let rhs = pick(on, -x, 1.0);
-    single(r_qglb(l, g), rhs, on, col_qg(l, g), -1.0)
+    let s = lower_reactive(l, bytes, g);
+    single(r_qglb(l, g), s.rhs, s.on, col_qg(l, g), -1.0)
 }
 
 // Segment t of generator g; so many segments and cost columns are before the generator's.
@@ -93,7 +79,7 @@ pub fn segment(
     let row = segment_base(l) + (segments + t) as u32;
     let col = cost_base(l) + curves as u32;
     let v = slope(bytes, r);
-    let rhs = -intercept(bytes, r);
+    let rhs = segment_side(bytes, r);
     line(
         row,
         rhs,

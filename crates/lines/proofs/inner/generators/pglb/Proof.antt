@@ -1,17 +1,11 @@
--- `lines::inner::generators::pglb` meets its contract. Assumes nothing.
+-- `lines::inner::generators::pglb` meets its contract: the numbers are the row's, and the right side is its b. Assumes nothing.
 use Rattle.lines.proofs.Lines.{pglb-stands}
 use borrow.Author.Needs.{needs}
 use Rattle.lines.proofs.inner.generators.pglb.Statement.{statement}
 use Rattle.lines.proofs.inner.generators.pglb.Tie as tie
 
-r-pglb-requires : tie.Need-r-pglb-requires
-r-pglb-requires c κs = (c .before .before .before .before .before .pre .0 .range, c .before .before .before .before .before .pre .1)
-
-col-pg-requires : tie.Need-col-pg-requires
-col-pg-requires c κs = (c .before .before .before .before .before .before .pre .0 .range, c .before .before .before .before .before .before .pre .1)
-
 returns : tie.Need-returns
-returns c = rw (c .single .ensures, c .before .before .r-pglb .ensures, c .before .col-pg .ensures, c .before .before .before .pick .ensures, c .before .before .before .before .before .generator-capability-active .ensures, c .before .before .before .before .pmin .ensures) (pglb-stands _ _ (c .before .before .before .before .before .before .before .before .pre .0) _ (c .before .before .before .before .before .before .before .before .pre .1))
+returns c = rw (c .single .ensures, c .before .before .r-pglb .ensures, c .before .col-pg .ensures, c .before .before .before .lower-active .ensures .rhs, c .before .before .before .lower-active .ensures .on) (pglb-stands _ _ (c .before .before .before .before .before .pre .0) _ (c .before .before .before .before .before .pre .1))
 
 pub pglb-spec : {M : Type 1} → statement M
-pglb-spec = tie.close (tie.spec (λ c. search needs) (λ c. search needs) (λ c κs. search needs) (λ c κs. search needs) (λ c κs. search needs) r-pglb-requires col-pg-requires (λ c κs. search needs) returns)
+pglb-spec = tie.close (tie.spec (λ c κs. search needs) (λ c κs. search needs) (λ c κs. search needs) (λ c κs. search needs) returns)

@@ -1,17 +1,11 @@
--- `lines::inner::generators::pgub` meets its contract. Assumes nothing.
+-- `lines::inner::generators::pgub` meets its contract: the numbers are the row's, and the right side is its b. Assumes nothing.
 use Rattle.lines.proofs.Lines.{pgub-stands}
 use borrow.Author.Needs.{needs}
 use Rattle.lines.proofs.inner.generators.pgub.Statement.{statement}
 use Rattle.lines.proofs.inner.generators.pgub.Tie as tie
 
-r-pgub-requires : tie.Need-r-pgub-requires
-r-pgub-requires c κs = (c .before .before .before .before .before .pre .0 .range, c .before .before .before .before .before .pre .1)
-
-col-pg-requires : tie.Need-col-pg-requires
-col-pg-requires c κs = (c .before .before .before .before .before .before .pre .0 .range, c .before .before .before .before .before .before .pre .1)
-
 returns : tie.Need-returns
-returns c = rw (c .single .ensures, c .before .before .r-pgub .ensures, c .before .col-pg .ensures, c .before .before .before .pick .ensures, c .before .before .before .before .before .generator-capability-active .ensures, c .before .before .before .before .pmax .ensures) (pgub-stands _ _ (c .before .before .before .before .before .before .before .before .pre .0) _ (c .before .before .before .before .before .before .before .before .pre .1))
+returns c = rw (c .single .ensures, c .before .before .r-pgub .ensures, c .before .col-pg .ensures, c .before .before .before .upper-active .ensures .rhs, c .before .before .before .upper-active .ensures .on) (pgub-stands _ _ (c .before .before .before .before .before .pre .0) _ (c .before .before .before .before .before .pre .1))
 
 pub pgub-spec : {M : Type 1} → statement M
-pgub-spec = tie.close (tie.spec (λ c. search needs) (λ c. search needs) (λ c κs. search needs) (λ c κs. search needs) (λ c κs. search needs) r-pgub-requires col-pg-requires (λ c κs. search needs) returns)
+pgub-spec = tie.close (tie.spec (λ c κs. search needs) (λ c κs. search needs) (λ c κs. search needs) (λ c κs. search needs) returns)
