@@ -55,32 +55,32 @@ module _ (l : SocWrLayout) (bytes : List ℕ) (h : Laid l bytes) where
       go false r f = refl
 
   pub wub-stands : (i : ℕ) → i < l .n → Stands G (Wub i)
-      (single (layoutRow l (Wub i)) (cond (voltageBoundOf bytes i) (mul binary64 (vmMaxOf bytes i) (vmMaxOf bytes i)) (constant64 one)) (voltageBoundOf bytes i) (layoutColumn l (W i)) (constant64 one))
+      (single (layoutRow l (Wub i)) (b G (Wub i)) (voltageBoundOf bytes i) (layoutColumn l (W i)) (constant64 one))
   unfolding terms b
   wub-stands i d = one-term (Wub i) (W i) one (voltageBoundOf bytes i) _ (laid-row l bytes h (Wub i) refl) (laid-column l bytes h (W i) refl) (λ r f. rw written-when) refl d d
 
   pub wlb-stands : (i : ℕ) → i < l .n → Stands G (Wlb i)
-      (single (layoutRow l (Wlb i)) (cond (voltageBoundOf bytes i) (mul binary64 (neg (vmMinOf bytes i)) (vmMinOf bytes i)) (constant64 one)) (voltageBoundOf bytes i) (layoutColumn l (W i)) (constant64 minusOne))
+      (single (layoutRow l (Wlb i)) (b G (Wlb i)) (voltageBoundOf bytes i) (layoutColumn l (W i)) (constant64 minusOne))
   unfolding terms b
   wlb-stands i d = one-term (Wlb i) (W i) minusOne (voltageBoundOf bytes i) _ (laid-row l bytes h (Wlb i) refl) (laid-column l bytes h (W i) refl) (λ r f. rw written-when) refl d d
 
   pub pgub-stands : (g : ℕ) → g < l .k → Stands G (Pgub g)
-      (single (layoutRow l (Pgub g)) (cond (capabilityOf bytes (l .n + l .m + g)) (pmaxOf bytes (l .n + l .m + g)) (constant64 one)) (capabilityOf bytes (l .n + l .m + g)) (layoutColumn l (Pg g)) (constant64 one))
+      (single (layoutRow l (Pgub g)) (b G (Pgub g)) (capabilityOf bytes (l .n + l .m + g)) (layoutColumn l (Pg g)) (constant64 one))
   unfolding terms b
   pgub-stands g d = one-term (Pgub g) (Pg g) one (capabilityOf bytes (l .n + l .m + g)) _ (laid-row l bytes h (Pgub g) refl) (laid-column l bytes h (Pg g) refl) (λ r f. rw written-when) refl d d
 
   pub pglb-stands : (g : ℕ) → g < l .k → Stands G (Pglb g)
-      (single (layoutRow l (Pglb g)) (cond (capabilityOf bytes (l .n + l .m + g)) (neg (pminOf bytes (l .n + l .m + g))) (constant64 one)) (capabilityOf bytes (l .n + l .m + g)) (layoutColumn l (Pg g)) (constant64 minusOne))
+      (single (layoutRow l (Pglb g)) (b G (Pglb g)) (capabilityOf bytes (l .n + l .m + g)) (layoutColumn l (Pg g)) (constant64 minusOne))
   unfolding terms b
   pglb-stands g d = one-term (Pglb g) (Pg g) minusOne (capabilityOf bytes (l .n + l .m + g)) _ (laid-row l bytes h (Pglb g) refl) (laid-column l bytes h (Pg g) refl) (λ r f. rw written-when) refl d d
 
   pub qgub-stands : (g : ℕ) → g < l .k → Stands G (Qgub g)
-      (single (layoutRow l (Qgub g)) (cond (capabilityOf bytes (l .n + l .m + g)) (qmaxOf bytes (l .n + l .m + g)) (constant64 one)) (capabilityOf bytes (l .n + l .m + g)) (layoutColumn l (Qg g)) (constant64 one))
+      (single (layoutRow l (Qgub g)) (b G (Qgub g)) (capabilityOf bytes (l .n + l .m + g)) (layoutColumn l (Qg g)) (constant64 one))
   unfolding terms b
   qgub-stands g d = one-term (Qgub g) (Qg g) one (capabilityOf bytes (l .n + l .m + g)) _ (laid-row l bytes h (Qgub g) refl) (laid-column l bytes h (Qg g) refl) (λ r f. rw written-when) refl d d
 
   pub qglb-stands : (g : ℕ) → g < l .k → Stands G (Qglb g)
-      (single (layoutRow l (Qglb g)) (cond (capabilityOf bytes (l .n + l .m + g)) (neg (qminOf bytes (l .n + l .m + g))) (constant64 one)) (capabilityOf bytes (l .n + l .m + g)) (layoutColumn l (Qg g)) (constant64 minusOne))
+      (single (layoutRow l (Qglb g)) (b G (Qglb g)) (capabilityOf bytes (l .n + l .m + g)) (layoutColumn l (Qg g)) (constant64 minusOne))
   unfolding terms b
   qglb-stands g d = one-term (Qglb g) (Qg g) minusOne (capabilityOf bytes (l .n + l .m + g)) _ (laid-row l bytes h (Qglb g) refl) (laid-column l bytes h (Qg g) refl) (λ r f. rw written-when) refl d d
 
@@ -122,7 +122,7 @@ module _ (l : SocWrLayout) (bytes : List ℕ) (h : Laid l bytes) where
       })
 
   pub angub-stands : (e : ℕ) (v : Float) → e < l .m → (angledOf bytes (l .n + e) ≡ true → v ≡ neg (tanAngmaxOf bytes (l .n + e))) → Stands G (Angub e)
-      (line (layoutRow l (Angub e)) (cond (angledOf bytes (l .n + e)) zero64 (constant64 one))
+      (line (layoutRow l (Angub e)) (b G (Angub e))
       (spot (angledOf bytes (l .n + e) && ne v zero64) (layoutColumn l (Wr e)) v) (spot (angledOf bytes (l .n + e)) (layoutColumn l (Wi e)) (constant64 one)))
   unfolding terms b
   angub-stands e v d q =
@@ -130,7 +130,7 @@ module _ (l : SocWrLayout) (bytes : List ℕ) (h : Laid l bytes) where
       (λ r f. rw written-when) refl d d d
 
   pub anglb-stands : (e : ℕ) (v : Float) → e < l .m → (angledOf bytes (l .n + e) ≡ true → v ≡ tanAngminOf bytes (l .n + e)) → Stands G (Anglb e)
-      (line (layoutRow l (Anglb e)) (cond (angledOf bytes (l .n + e)) zero64 (constant64 one))
+      (line (layoutRow l (Anglb e)) (b G (Anglb e))
       (spot (angledOf bytes (l .n + e) && ne v zero64) (layoutColumn l (Wr e)) v) (spot (angledOf bytes (l .n + e)) (layoutColumn l (Wi e)) (constant64 minusOne)))
   unfolding terms b
   anglb-stands e v d q =
@@ -154,7 +154,7 @@ module _ (l : SocWrLayout) (bytes : List ℕ) (h : Laid l bytes) where
   pub segment-stands : (g t row col : ℕ) → g < l .k → t < G .segments g
       → row ≡ layoutRow l (Segment (sum g (G .segments) + t) 0) → col ≡ layoutColumn l (CostOf (count g (G .piecewise)))
       → Stands G (Segment g t)
-      (line row (neg (G .intercept g t)) (spot (ne (G .slope g t) zero64) (layoutColumn l (Pg g)) (G .slope g t)) (spot true col (constant64 minusOne)))
+      (line row (b G (Segment g t)) (spot (ne (G .slope g t) zero64) (layoutColumn l (Pg g)) (G .slope g t)) (spot true col (constant64 minusOne)))
   unfolding terms b
   segment-stands g t row col d q hr hc =
       two-terms (Segment g t) (Pg g) (CostOf g) (G .slope g t) _ minusOne true _ (λ e. refl) (hr ∙ laid-segment l bytes h g t) (laid-column l bytes h (Pg g) refl) (hc ∙ laid-cost l bytes h g)

@@ -2,7 +2,6 @@
 use crate::Line;
 use crate::Spot;
 ghost use mathlib.Core.Path.{_≡_};
-ghost use mathlib.Core.Bool.{cond};
 ghost use Rattle.lines.specs.Line.{spot as spotOf, line as lineOf, single as singleOf};
 
 pub mod angles;
@@ -41,14 +40,4 @@ pub(crate) fn line(row: u32, rhs: f64, first: Spot, second: Spot) -> Line
         first,
         second,
     }
-}
-
-// One of two numbers.
-pub(crate) fn pick(first: bool, a: f64, b: f64) -> f64
-    ensures { λ r. ⌜ r ≡ cond first a b ⌝ }
-{
-    if first {
-        return a;
-    }
-    b
 }

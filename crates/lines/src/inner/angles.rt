@@ -1,9 +1,8 @@
 // The angle bounds.
 use super::line;
-use super::pick;
 use super::spot;
 use crate::Line;
-use branch::inner::conic_angle_bound_active;
+use bounds::inner::angle;
 use numbering::SocWrLayout;
 use records::inner::tan_angmax;
 use records::inner::tan_angmin;
@@ -44,14 +43,13 @@ pub fn angub(l: SocWrLayout, bytes: &[u8], e: usize) -> Line
     ensures { λ r. ⌜ Stands (netOf l (now (bytes .entry))) (Angub e) r ⌝ }
 {
     let r = l.n + e;
-    let on = conic_angle_bound_active(bytes, r);
-    let v = -max_tangent(on, bytes, r);
-    let rhs = pick(on, 0.0, 1.0);
+    let s = angle(l, bytes, e);
+    let v = -max_tangent(s.on, bytes, r);
     line(
         l.angub_row(e),
-        rhs,
-        spot(on & (v != 0.0), l.wr_column(e), v),
-        spot(on, l.wi_column(e), 1.0),
+        s.rhs,
+        spot(s.on & (v != 0.0), l.wr_column(e), v),
+        spot(s.on, l.wi_column(e), 1.0),
     )
 }
 
@@ -61,13 +59,12 @@ pub fn anglb(l: SocWrLayout, bytes: &[u8], e: usize) -> Line
     ensures { λ r. ⌜ Stands (netOf l (now (bytes .entry))) (Anglb e) r ⌝ }
 {
     let r = l.n + e;
-    let on = conic_angle_bound_active(bytes, r);
-    let v = min_tangent(on, bytes, r);
-    let rhs = pick(on, 0.0, 1.0);
+    let s = angle(l, bytes, e);
+    let v = min_tangent(s.on, bytes, r);
     line(
         l.anglb_row(e),
-        rhs,
-        spot(on & (v != 0.0), l.wr_column(e), v),
-        spot(on, l.wi_column(e), -1.0),
+        s.rhs,
+        spot(s.on & (v != 0.0), l.wr_column(e), v),
+        spot(s.on, l.wi_column(e), -1.0),
     )
 }

@@ -1,11 +1,9 @@
 // The voltage bounds.
-use super::pick;
 use super::single;
 use crate::Line;
+use bounds::inner::lower_voltage;
+use bounds::inner::upper_voltage;
 use numbering::SocWrLayout;
-use records::inner::vm_max;
-use records::inner::vm_min;
-use records::inner::voltage_bound_active;
 ghost use Prim.Native.Nat.{_<_};
 ghost use Rattle.numbering.specs.declared.RowName.the-variants.{Wub, Wlb};
 ghost use Rattle.numbering.specs.Laid.{netOf, Laid};
@@ -16,10 +14,8 @@ pub fn wub(l: SocWrLayout, bytes: &[u8], i: usize) -> Line
     requires { ⌜ i < l .n ⌝ }
     ensures { λ r. ⌜ Stands (netOf l (now (bytes .entry))) (Wub i) r ⌝ }
 {
-    let on = voltage_bound_active(bytes, i);
-    let vm = vm_max(bytes, i);
-    let rhs = pick(on, vm * vm, 1.0);
-    single(l.wub_row(i), rhs, on, l.w_column(i), 1.0)
+    let s = upper_voltage(l, bytes, i);
+    single(l.wub_row(i), s.rhs, s.on, l.w_column(i), 1.0)
 }
 
 pub fn wlb(l: SocWrLayout, bytes: &[u8], i: usize) -> Line
@@ -27,8 +23,6 @@ pub fn wlb(l: SocWrLayout, bytes: &[u8], i: usize) -> Line
     requires { ⌜ i < l .n ⌝ }
     ensures { λ r. ⌜ Stands (netOf l (now (bytes .entry))) (Wlb i) r ⌝ }
 {
-    let on = voltage_bound_active(bytes, i);
-    let vm = vm_min(bytes, i);
-    let rhs = pick(on, -vm * vm, 1.0);
-    single(l.wlb_row(i), rhs, on, l.w_column(i), -1.0)
+    let s = lower_voltage(l, bytes, i);
+    single(l.wlb_row(i), s.rhs, s.on, l.w_column(i), -1.0)
 }

@@ -1,16 +1,14 @@
 // The generators' bounds, and the segments of their costs.
 use super::line;
-use super::pick;
 use super::single;
 use super::spot;
 use crate::Line;
+use bounds::inner::lower_active;
+use bounds::inner::lower_reactive;
+use bounds::inner::segment_side;
+use bounds::inner::upper_active;
+use bounds::inner::upper_reactive;
 use numbering::SocWrLayout;
-use records::inner::generator_capability_active;
-use records::inner::intercept;
-use records::inner::pmax;
-use records::inner::pmin;
-use records::inner::qmax;
-use records::inner::qmin;
 use records::inner::slope;
 ghost use mathlib.Core.Path.{_≡_};
 ghost use Prim.Native.Nat.{_<_};
@@ -24,11 +22,8 @@ pub fn pgub(l: SocWrLayout, bytes: &[u8], g: usize) -> Line
     requires { ⌜ g < l .k ⌝ }
     ensures { λ r. ⌜ Stands (netOf l (now (bytes .entry))) (Pgub g) r ⌝ }
 {
-    let r = l.n + l.m + g;
-    let on = generator_capability_active(bytes, r);
-    let x = pmax(bytes, r);
-    let rhs = pick(on, x, 1.0);
-    single(l.pgub_row(g), rhs, on, l.pg_column(g), 1.0)
+    let s = upper_active(l, bytes, g);
+    single(l.pgub_row(g), s.rhs, s.on, l.pg_column(g), 1.0)
 }
 
 pub fn pglb(l: SocWrLayout, bytes: &[u8], g: usize) -> Line
@@ -36,11 +31,8 @@ pub fn pglb(l: SocWrLayout, bytes: &[u8], g: usize) -> Line
     requires { ⌜ g < l .k ⌝ }
     ensures { λ r. ⌜ Stands (netOf l (now (bytes .entry))) (Pglb g) r ⌝ }
 {
-    let r = l.n + l.m + g;
-    let on = generator_capability_active(bytes, r);
-    let x = pmin(bytes, r);
-    let rhs = pick(on, -x, 1.0);
-    single(l.pglb_row(g), rhs, on, l.pg_column(g), -1.0)
+    let s = lower_active(l, bytes, g);
+    single(l.pglb_row(g), s.rhs, s.on, l.pg_column(g), -1.0)
 }
 
 pub fn qgub(l: SocWrLayout, bytes: &[u8], g: usize) -> Line
@@ -48,11 +40,8 @@ pub fn qgub(l: SocWrLayout, bytes: &[u8], g: usize) -> Line
     requires { ⌜ g < l .k ⌝ }
     ensures { λ r. ⌜ Stands (netOf l (now (bytes .entry))) (Qgub g) r ⌝ }
 {
-    let r = l.n + l.m + g;
-    let on = generator_capability_active(bytes, r);
-    let x = qmax(bytes, r);
-    let rhs = pick(on, x, 1.0);
-    single(l.qgub_row(g), rhs, on, l.qg_column(g), 1.0)
+    let s = upper_reactive(l, bytes, g);
+    single(l.qgub_row(g), s.rhs, s.on, l.qg_column(g), 1.0)
 }
 
 pub fn qglb(l: SocWrLayout, bytes: &[u8], g: usize) -> Line
@@ -60,11 +49,8 @@ pub fn qglb(l: SocWrLayout, bytes: &[u8], g: usize) -> Line
     requires { ⌜ g < l .k ⌝ }
     ensures { λ r. ⌜ Stands (netOf l (now (bytes .entry))) (Qglb g) r ⌝ }
 {
-    let r = l.n + l.m + g;
-    let on = generator_capability_active(bytes, r);
-    let x = qmin(bytes, r);
-    let rhs = pick(on, -x, 1.0);
-    single(l.qglb_row(g), rhs, on, l.qg_column(g), -1.0)
+    let s = lower_reactive(l, bytes, g);
+    single(l.qglb_row(g), s.rhs, s.on, l.qg_column(g), -1.0)
 }
 
 // Segment t of generator g; so many segments and cost columns are before the generator's.
@@ -85,7 +71,7 @@ pub fn segment(
     let row = l.segment_row(segments + t);
     let col = l.cost_column(curves);
     let v = slope(bytes, r);
-    let rhs = -intercept(bytes, r);
+    let rhs = segment_side(bytes, r);
     line(
         row,
         rhs,

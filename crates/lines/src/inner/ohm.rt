@@ -1,19 +1,20 @@
 // The Ohm rows of a branch.
 use crate::Ohm;
+use branch::OhmRow;
+use branch::inner::ohm::w_at;
+use branch::inner::ohm::wi_value;
+use branch::inner::ohm::wr_value;
+use branch::inner::places::end_bus;
+use branch::inner::places::flow_column;
+use branch::inner::places::ohm_row;
 use branch::inner::series;
-use lists::inner::wide;
 use numbering::SocWrLayout;
-use records::inner::b_fr;
-use records::inner::b_to;
-use records::inner::br_from;
-use records::inner::br_to;
-use records::inner::g_fr;
-use records::inner::g_to;
 ghost use mathlib.Core.Path.{_≡_};
 ghost use Prim.Native.Nat.{_<_};
 ghost use Rattle.numbering.specs.Layout.{InRange};
 ghost use Rattle.numbering.specs.Laid.{netOf, Laid};
-ghost use Rattle.numbering.specs.declared.RowName.the-variants.{OhmPf, OhmQf, OhmPt, OhmQt};
+ghost use Rattle.rows.specs.Rows.{ohmRow};
+ghost use Rattle.branch.specs.Ohm.{rowKind};
 ghost use Rattle.lines.specs.Ohm.{ohmOf, OhmStands};
 
 fn ohm(
@@ -42,62 +43,18 @@ fn ohm(
     }
 }
 
-pub fn ohm_pf(l: SocWrLayout, bytes: &[u8], e: usize) -> Ohm
+pub fn ohm_line(l: SocWrLayout, bytes: &[u8], q: OhmRow, e: usize) -> Ohm
     requires { ⌜ Laid l (now bytes) ⌝ }
     requires { ⌜ e < l .m ⌝ }
-    ensures { λ r. ⌜ OhmStands (netOf l (now (bytes .entry))) (OhmPf e) r ⌝ }
+    ensures { λ r. ⌜ OhmStands (netOf l (now (bytes .entry))) (ohmRow (rowKind q) e) r ⌝ }
 {
     let r = l.n + e;
     let t = series(bytes, r);
-    let a = g_fr(bytes, r);
-    let w = -(t.g + a) / t.tm2;
-    let wr = -(-t.g * t.tr + t.b * t.ti) / t.tm2;
-    let wi = -(-t.b * t.tr - t.g * t.ti) / t.tm2;
-    let bus = wide(br_from(bytes, r));
-    ohm(l, e, bus, l.ohm_pf_row(e), l.pf_column(e), w, wr, wi)
-}
-
-pub fn ohm_qf(l: SocWrLayout, bytes: &[u8], e: usize) -> Ohm
-    requires { ⌜ Laid l (now bytes) ⌝ }
-    requires { ⌜ e < l .m ⌝ }
-    ensures { λ r. ⌜ OhmStands (netOf l (now (bytes .entry))) (OhmQf e) r ⌝ }
-{
-    let r = l.n + e;
-    let t = series(bytes, r);
-    let a = b_fr(bytes, r);
-    let w = (t.b + a) / t.tm2;
-    let wr = (-t.b * t.tr - t.g * t.ti) / t.tm2;
-    let wi = -(-t.g * t.tr + t.b * t.ti) / t.tm2;
-    let bus = wide(br_from(bytes, r));
-    ohm(l, e, bus, l.ohm_qf_row(e), l.qf_column(e), w, wr, wi)
-}
-
-pub fn ohm_pt(l: SocWrLayout, bytes: &[u8], e: usize) -> Ohm
-    requires { ⌜ Laid l (now bytes) ⌝ }
-    requires { ⌜ e < l .m ⌝ }
-    ensures { λ r. ⌜ OhmStands (netOf l (now (bytes .entry))) (OhmPt e) r ⌝ }
-{
-    let r = l.n + e;
-    let t = series(bytes, r);
-    let a = g_to(bytes, r);
-    let w = -(t.g + a);
-    let wr = -(-t.g * t.tr - t.b * t.ti) / t.tm2;
-    let wi = (-t.b * t.tr + t.g * t.ti) / t.tm2;
-    let bus = wide(br_to(bytes, r));
-    ohm(l, e, bus, l.ohm_pt_row(e), l.pt_column(e), w, wr, wi)
-}
-
-pub fn ohm_qt(l: SocWrLayout, bytes: &[u8], e: usize) -> Ohm
-    requires { ⌜ Laid l (now bytes) ⌝ }
-    requires { ⌜ e < l .m ⌝ }
-    ensures { λ r. ⌜ OhmStands (netOf l (now (bytes .entry))) (OhmQt e) r ⌝ }
-{
-    let r = l.n + e;
-    let t = series(bytes, r);
-    let a = b_to(bytes, r);
-    let w = t.b + a;
-    let wr = (-t.b * t.tr + t.g * t.ti) / t.tm2;
-    let wi = (-t.g * t.tr - t.b * t.ti) / t.tm2;
-    let bus = wide(br_to(bytes, r));
-    ohm(l, e, bus, l.ohm_qt_row(e), l.qt_column(e), w, wr, wi)
+    let w = w_at(q, t, bytes, r);
+    let wr = wr_value(q, t);
+    let wi = wi_value(q, t);
+    let bus = end_bus(q, l, bytes, e);
+    let row = ohm_row(q, l, bytes, e);
+    let flow = flow_column(q, l, bytes, e);
+    ohm(l, e, bus, row, flow, w, wr, wi)
 }

@@ -1,8 +1,8 @@
--- `operands::inner::selector::room_cause` meets its contract. Assumes nothing.
+-- `interface::inner::room_cause` meets its contract. Assumes nothing.
 use borrow.Author.Needs.{needs}
-use Rattle.operands.specs.Selector.{roomCause}
-use Rattle.operands.proofs.inner.selector.room_cause.Statement.{statement}
-use Rattle.operands.proofs.inner.selector.room_cause.Tie as tie
+use Rattle.interface.specs.Selector.{roomCause}
+use Rattle.interface.proofs.inner.room_cause.Statement.{statement}
+use Rattle.interface.proofs.inner.room_cause.Tie as tie
 
 pub room-cause-spec : {M : Type 1} → statement M
 unfolding roomCause

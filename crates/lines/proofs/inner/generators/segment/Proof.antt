@@ -43,8 +43,8 @@ slope-requires c κs =
     rw (segment-record (a .l .n) (a .l .m) (a .l .k) (a .bytes .now) (a .g) (a .t) (ap (λ (x : ℕ). a .l .n + a .l .m + a .l .k + x) (s .pre .1 .1 .0)))
     (segment-inside (s .pre .0 .accepted) (a .g) (a .t) (s .pre .1 .0 .0) (s .pre .1 .0 .1))
 
-intercept-requires : tie.Need-intercept-requires
-intercept-requires c κs =
+segment-side-requires : tie.Need-segment-side-requires
+segment-side-requires c κs =
     let s = c .before .before .before .before .before .before in
     let a = s .args in
     rw (segment-record (a .l .n) (a .l .m) (a .l .k) (a .bytes .now) (a .g) (a .t) (ap (λ (x : ℕ). a .l .n + a .l .m + a .l .k + x) (s .pre .1 .1 .0)))
@@ -62,7 +62,7 @@ returns c =
       c .before .spot2 .ensures,
       c .before .before .before .pg-column .ensures,
       c .before .before .before .before .before .slope .ensures,
-      c .before .before .before .before .intercept .ensures,
+      c .before .before .before .before .segment-side .ensures,
       segment-record (a .l .n) (a .l .m) (a .l .k) (a .bytes .now) (a .g) (a .t) (ap (λ (x : ℕ). a .l .n + a .l .m + a .l .k + x) (p .1 .1 .0)),
     )
     (segment-stands _ _ (p .0) _ _ _ _ (p .1 .0 .0) (p .1 .0 .1)
@@ -70,4 +70,4 @@ returns c =
     (rw (p .1 .1 .1) at (c .before .before .before .before .before .before .cost-column .ensures)))
 
 pub segment-spec : {M : Type 1} → statement M
-segment-spec = tie.close (tie.spec (λ c. search needs) (λ c. search needs) add-r-3 add-r-4 add-segment-row segment-row-requires cost-column-requires slope-requires intercept-requires (λ c κs. search needs) (λ c κs. search needs) (λ c κs. search needs) (λ c κs. search needs) returns)
+segment-spec = tie.close (tie.spec (λ c. search needs) (λ c. search needs) add-r-3 add-r-4 add-segment-row segment-row-requires cost-column-requires slope-requires segment-side-requires (λ c κs. search needs) (λ c κs. search needs) (λ c κs. search needs) (λ c κs. search needs) returns)

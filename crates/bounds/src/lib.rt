@@ -1,0 +1,8 @@
+// The rows that bound a voltage, a dispatch or an angle, and the segments of costs: their right sides.
+pub mod inner;
+
+// Whether the row's bound is active, and the row's right side.
+pub struct Side {
+    pub on: bool,
+    pub rhs: f64,
+}
