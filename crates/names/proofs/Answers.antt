@@ -1,4 +1,4 @@
--- The answers that hold a name: refused, past the end, or the name of the key that stands at the point. Assumes nothing.
+-- The answers that hold a name: refused, past the end, or the name itself. Assumes nothing.
 use Prim.Native.Nat.{ℕ, _<_, _≤_}
 use mathlib.Core.Path.{_≡_, refl, sym, ap, _∙_, subst}
 use mathlib.Core.Bool.{true}
@@ -9,19 +9,13 @@ use Rattle.refusals.specs.declared.Checked.{Checked}
 use Rattle.refusals.specs.declared.Checked.the-variants.{Accepted, Refused}
 use Rattle.refusals.specs.declared.Refusal.the-variants.{PastEnd}
 use Rattle.refusals.proofs.Laws.{orElse-refused}
-use Rattle.records.specs.AcNetwork.{AcNetwork}
-use Rattle.numbering.specs.Blocks.{KeyStands}
-use Rattle.numbering.specs.Numbering.{SameKey, columnKey, columnOf, columnBlocks, columnAt, rowKey, rowOf, rowBlocks, rowAt}
 use Rattle.names.specs.Named.{columnAnswer, rowAnswer}
-use Rattle.numbering.specs.declared.Key.{Key}
 use Rattle.numbering.specs.declared.ColumnName.{ColumnName}
 use Rattle.numbering.specs.declared.RowName.{RowName}
 use Rattle.names.specs.declared.ColumnAnswer.{ColumnAnswer}
 use Rattle.names.specs.declared.ColumnAnswer.the-variants as ColumnAnswer
 use Rattle.names.specs.declared.RowAnswer.{RowAnswer}
 use Rattle.names.specs.declared.RowAnswer.the-variants as RowAnswer
-use Rattle.numbering.proofs.Points.{key-only}
-use Rattle.numbering.proofs.Names.{same-key, column-of, row-of}
 
 column-alike : (c : Checked) (x y : ColumnName) → isRefused c ≡ true → columnAnswer c x ≡ columnAnswer c y
 unfolding columnAnswer isRefused
@@ -64,11 +58,3 @@ pub row-given : {d : Checked} (n p : ℕ) (x y : RowName) → d ≡ Accepted →
     → RowAnswer.Row x ≡ rowAnswer (d orElse refuseUnless (ltb p n) (PastEnd p)) y
 unfolding rowAnswer _orElse_ refuseUnless
 row-given n p x y e l q = rw (e, lt-ltb p n l, q)
-
--- ---- the name of the key that stands at p
-module _ {A : Type 0} (G : AcNetwork A) (p : ℕ) (x : Key) where
-  pub column-right : (y : ColumnName) → SameKey (columnKey y) x → KeyStands (columnBlocks G) p x → y ≡ columnAt G p
-  column-right y h s = sym (column-of y) ∙ ap columnOf (same-key h ∙ key-only (columnBlocks G) p x s)
-
-  pub row-right : (y : RowName) → SameKey (rowKey y) x → KeyStands (rowBlocks G) p x → y ≡ rowAt G p
-  row-right y h s = sym (row-of y) ∙ ap rowOf (same-key h ∙ key-only (rowBlocks G) p x s)

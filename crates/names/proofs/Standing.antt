@@ -1,121 +1,138 @@
--- The key that is found for a point stands there. Assumes nothing.
-use Prim.Native.Nat.{ℕ, _+_, _*_, _/_, _%_, _<_, _≤_}
+-- The name that is found for a point stands there: the layout gives the name's number, and the network has the name. Assumes nothing.
+use Prim.Native.Nat.{ℕ, _+_, _/_, _%_, _<_}
 use mathlib.Core.Path.{_≡_, refl, sym, ap, _∙_}
-use mathlib.Core.Bool.{Bool}
+use mathlib.Core.Bool.{Bool, true, false}
 use mathlib.Core.List.{List}
 use native.Mathlib.Omega.{arith}
-use native.Mathlib.Decide.{decLe}
+use borrow.Author.Tests.{ne-eqb}
+use lib.Ieee.{Float}
 use lib.ListN.{length, getD}
-use Rattle.lists.specs.UpTo.{sum, bit, count}
-use Rattle.lists.proofs.Sums.{bit-le}
+use Rattle.lists.specs.UpTo.{bit, count}
 use Rattle.records.specs.AcNetwork.{AcNetwork}
-use Rattle.numbering.specs.Blocks.{Block, records, points, start, blockAt, before, key, Valid, KeyStands}
-use Rattle.numbering.specs.Numbering.{columnBlocks, nvar, rowBlocks, ncon}
-use Rattle.numbering.specs.Layout.{layoutOf, columnSizes, rowSizes, startIn, InBlock}
+use Rattle.numbering.specs.Blocks.{key, before, numberOf}
+use Rattle.numbering.specs.Numbering.{SameKey, columnKey, columnCounted, ColumnStands, nvar, costColumns, rowKey, rowCounted, RowStands, ncon, costRows, jabrRows, thermalRows}
+use Rattle.numbering.specs.Layout.{layoutColumns, layoutRows, sizesOf, startIn, InBlock}
+use Rattle.numbering.specs.Laid.{netOf, Laid}
+use Rattle.numbering.specs.Tally.{pointsOf, tallyOf, Located}
+use Rattle.numbering.specs.declared.SocWrLayout.{SocWrLayout}
 use Rattle.numbering.specs.declared.Place.{Place}
-use Rattle.numbering.specs.declared.Key.{Key}
-use Rattle.numbering.proofs.Points.{among}
-use Rattle.numbering.proofs.Entered.{Sizes, Plain, plain-at, start-is}
+use Rattle.numbering.specs.declared.Tally.the-variants.{Limited, Piecewise, Segments}
+use Rattle.numbering.specs.declared.ColumnName.{ColumnName}
+use Rattle.numbering.specs.declared.ColumnName.the-variants.{CostOf}
+use Rattle.numbering.specs.declared.RowName.{RowName}
+use Rattle.numbering.specs.declared.RowName.the-variants.{Segment, Jabr, Thermal}
+use Rattle.numbering.proofs.Names.{same-key}
+use Rattle.numbering.proofs.Numbers.{column-valid, row-valid}
+use Rattle.numbering.proofs.Layouts.{limits-tally, curves-tally, segments-tally, limited-before, piecewise-before}
+use Rattle.numbering.proofs.Laid.{limits-are, curves-are, laid-nvar, laid-ncon, laid-column, laid-row, laid-cost, laid-segment, laid-thermal}
+use Rattle.numbering.proofs.Entered.{start-is, plain-number, plain-columns, plain-rows, jabr-number, thermal-number}
+use Rattle.numbering.proofs.Tables.{cost-length, segment-length, jabr-length, thermal-length, columns-end, rows-end, laid-column-block, laid-row-block}
 
--- the networks' blocks have the layout's lengths
-module _ {A : Type 0} (G : AcNetwork A) where
-  pub columns-sized : Sizes (columnBlocks G) (columnSizes (layoutOf G)) 10
-  columns-sized =
-      (omega arith, (omega arith, (omega arith, (omega arith, (omega arith, (omega arith, (omega arith, (omega arith, (omega arith, (omega arith, tt))))))))))
+-- a place below a test's bit: the test holds, and the place is 0
+bit-held : (j : ℕ) (t : Bool) → j < bit t → (t ≡ true) × (j ≡ 0)
+bit-held j true h = (refl, omega arith)
+bit-held j false h = absurd (omega arith)
 
-  pub rows-sized : sum (G .k) (G .segments) ≡ G .s → Sizes (rowBlocks G) (rowSizes (layoutOf G)) 17
-  rows-sized h =
-      (omega arith, (omega arith, (omega arith, (omega arith, (omega arith, (omega arith, (omega arith, (omega arith, (omega arith, (omega arith, (omega arith, (omega arith, (omega arith, (omega arith, (omega arith, (omega arith, (omega arith, tt)))))))))))))))))
+module _ (l : SocWrLayout) (b : List ℕ) (h : Laid l b) where
+  abbrev G : AcNetwork Float
+  G = netOf l b
 
-  columns-even : Plain (columnBlocks G) (columnSizes (layoutOf G)) 9
-  columns-even = (refl, (refl, (refl, (refl, (refl, (refl, (refl, (refl, (refl, tt)))))))))
+  pub column-total : (p : ℕ) → p < nvar G → p < startIn (sizesOf (layoutColumns l)) (length (sizesOf (layoutColumns l)))
+  column-total p k = omega (arith, columns-end l, laid-nvar l b h)
 
-  rows-even : Plain (rowBlocks G) (rowSizes (layoutOf G)) 14
-  rows-even = (refl, (refl, (refl, (refl, (refl, (refl, (refl, (refl, (refl, (refl, (refl, (refl, (refl, (refl, tt))))))))))))))
+  pub row-total : (p : ℕ) → p < ncon G → p < startIn (sizesOf (layoutRows l)) (length (sizesOf (layoutRows l)))
+  row-total p k = omega (arith, rows-end l, laid-ncon l b h)
 
-  pub column-total : (p : ℕ) → p < nvar G → p < startIn (columnSizes (layoutOf G)) (length (columnSizes (layoutOf G)))
-  column-total p l = omega (arith, start-is (columnBlocks G) (columnSizes (layoutOf G)) 10 columns-sized 10 (omega arith))
+  -- ---- a point of the columns in its block
+  module _ (p : ℕ) (q : Place) (r : InBlock (sizesOf (layoutColumns l)) p q) where
+    -- the layout's number of this place is p
+    column-there : q .item < 10 → numberOf (layoutColumns l) (key (q .item) (q .at) 0) ≡ p
+    column-there k =
+        omega (arith, plain-number (layoutColumns l) 10 (plain-columns l) (q .item) (q .at) k, start-is (layoutColumns l) (q .item), r .number)
 
-  pub row-total : sum (G .k) (G .segments) ≡ G .s → (p : ℕ) → p < ncon G → p < startIn (rowSizes (layoutOf G)) (length (rowSizes (layoutOf G)))
-  row-total h p l = omega (arith, start-is (rowBlocks G) (rowSizes (layoutOf G)) 17 (rows-sized h) 17 (omega arith))
+    pub plain-column-stands : q .item < 9 → (x : ColumnName) → SameKey (columnKey x) (key (q .item) (q .at) 0) → ColumnStands G p x
+    plain-column-stands k x s =
+        let e = same-key s in
+        let here = laid-column-block l b h (q .item) k in
+        let counted : columnCounted x ≡ true = rw (ne-eqb (columnKey x .block) costColumns (λ z. omega (arith, s .block))) in
+        record {
+          valid = rw e (record { item = rw here (r .inside); place = rw here (omega arith) });
+          number = sym (laid-column l b h x counted) ∙ ap (numberOf (layoutColumns l)) e ∙ column-there (omega arith);
+        }
 
-  -- what a valid key's numbers are
-  pub valid-column : (x : Key) → Valid (columnBlocks G) x → (x .block < 10) × (x .place ≡ 0)
-  valid-column x v = go (x .block) (among (columnBlocks G) (x .block) (x .item) (v .item)) (v .place)
-    where
-      go : (b : ℕ) → b < 10 → x .place < points (blockAt (columnBlocks G) b) (x .item) → (b < 10) × (x .place ≡ 0)
-      go b l h = elim (decLe 9 b) [
-        | yes k ↦
-            let e : b ≡ 9 = omega arith in
-            let h9 : x .place < points (blockAt (columnBlocks G) 9) (x .item) = rw e at h in
-            (l, omega (arith, bit-le (G .piecewise (x .item))))
-        | no k ↦
-            let h1 : x .place < 1 = rw (plain-at (columnBlocks G) (columnSizes (layoutOf G)) 9 columns-even b (omega arith)) at h in
-            (l, omega arith)
-      ]
+    pub cost-inside : q .item ≡ costColumns → q .at < tallyOf Piecewise b (l .n + l .m) (l .k)
+    cost-inside e =
+        let i : q .at < getD (sizesOf (layoutColumns l)) costColumns 0 = rw e at (r .inside) in
+        omega (arith, cost-length l, curves-are l b h, curves-tally (l .n) (l .m) (l .k) (l .s) b)
 
-  pub valid-row : (x : Key) → Valid (rowBlocks G) x → (x .block < 17) × (x .block < 14 → x .place ≡ 0)
-  valid-row x v = (
-    among (rowBlocks G) (x .block) (x .item) (v .item),
-    λ k.
-        let h1 : x .place < 1 = rw (plain-at (rowBlocks G) (rowSizes (layoutOf G)) 14 rows-even (x .block) k) at (v .place) in
-        omega arith,
-  )
+    pub cost-stands : q .item ≡ costColumns → (g : Place) → Located Piecewise b (l .n + l .m) (l .k) (q .at) g → ColumnStands G p (CostOf (g .item))
+    unfolding pointsOf
+    cost-stands e g f =
+        let t = bit-held (g .at) (G .piecewise (g .item)) (f .inside) in
+        let n : count (g .item) (G .piecewise) ≡ q .at = omega (arith, f .number, piecewise-before (l .n) (l .m) (l .k) (l .s) b (g .item)) in
+        record {
+          valid = column-valid G (CostOf (g .item)) (f .below, t .0);
+          number = sym (laid-cost l b h (g .item)) ∙ rw n (rw e at (column-there (omega arith)));
+        }
 
--- a point in one of the first c blocks, whose records have one point each
-even-stands : (bs : List Block) (ws : List ℕ) (c d : ℕ) → Plain bs ws c → Sizes bs ws d → c ≤ d → (p : ℕ) (q : Place) → InBlock ws p q → q .item < c
-    → KeyStands bs p (key (q .item) (q .at) 0)
-even-stands bs ws c d h z l p q r k =
-    let e = plain-at bs ws c h (q .item) k in
-    record {
-      valid = record { item = rw e (r .inside); place = rw e (omega arith) };
-      number = rw e (omega (arith, r .number, start-is bs ws d z (q .item) (omega arith)));
-    }
+  -- ---- a point of the rows in its block
+  module _ (p : ℕ) (q : Place) (r : InBlock (sizesOf (layoutRows l)) p q) where
+    row-there : q .item < 15 → numberOf (layoutRows l) (key (q .item) (q .at) 0) ≡ p
+    row-there k =
+        omega (arith, plain-number (layoutRows l) 15 (plain-rows l) (q .item) (q .at) k, start-is (layoutRows l) (q .item), r .number)
 
-module _ {A : Type 0} (G : AcNetwork A) (p : ℕ) (q : Place) (r : InBlock (columnSizes (layoutOf G)) p q) where
-  pub column-even : q .item < 9 → KeyStands (columnBlocks G) p (key (q .item) (q .at) 0)
-  column-even k = even-stands (columnBlocks G) _ 9 10 (columns-even G) (columns-sized G) (omega arith) p q r k
+    inside : (j : ℕ) → q .item ≡ j → q .at < getD (sizesOf (layoutRows l)) j 0
+    inside j e = rw e at (r .inside)
 
-  in-block : (b : ℕ) → q .item ≡ b → b ≤ 10 → (q .at < getD (columnSizes (layoutOf G)) b 0) × (before (columnBlocks G) b + q .at ≡ p)
-  in-block b e l =
-      let n : startIn (columnSizes (layoutOf G)) b + q .at ≡ p = rw e at (r .number) in
-      (rw e at (r .inside), omega (arith, start-is (columnBlocks G) (columnSizes (layoutOf G)) 10 (columns-sized G) b l))
+    -- in the blocks of several rows to a branch
+    place-there : (j : ℕ) → q .item ≡ j → before (layoutRows l) j + q .at ≡ p
+    place-there j e =
+        let n : startIn (sizesOf (layoutRows l)) j + q .at ≡ p = rw e at (r .number) in
+        omega (arith, start-is (layoutRows l) j)
 
-  pub cost-inside : q .item ≡ 9 → q .at < count (G .k) (G .piecewise)
-  cost-inside e = in-block 9 e (omega arith) .0
+    pub plain-row-stands : q .item < 14 → (x : RowName) → SameKey (rowKey x) (key (q .item) (q .at) 0) → RowStands G p x
+    plain-row-stands k x s =
+        let e = same-key s in
+        let here = laid-row-block l b h (q .item) k in
+        let counted : rowCounted x ≡ true =
+        rw (ne-eqb (rowKey x .block) costRows (λ z. omega (arith, s .block)), ne-eqb (rowKey x .block) thermalRows (λ z. omega (arith, s .block))) in
+        record {
+          valid = rw e (record { item = rw here (r .inside); place = rw here (omega arith) });
+          number = sym (laid-row l b h x counted) ∙ ap (numberOf (layoutRows l)) e ∙ row-there (omega arith);
+        }
 
-  pub cost-stands : q .item ≡ 9 → (g j : ℕ) → g < G .k → j < bit (G .piecewise g) → count g (G .piecewise) + j ≡ q .at
-      → KeyStands (columnBlocks G) p (key 9 g j)
-  cost-stands e g j l i n =
-      record { valid = record { item = l; place = omega arith }; number = omega (arith, in-block 9 e (omega arith) .1) }
+    pub segment-in : q .item ≡ costRows → q .at < tallyOf Segments b (l .n + l .m) (l .k)
+    segment-in e =
+        omega (arith, inside costRows e, segment-length l, h .accepted .counts-add, segments-tally (l .n) (l .m) (l .k) (l .s) b (l .k))
 
-module _ {A : Type 0} (G : AcNetwork A) (h : sum (G .k) (G .segments) ≡ G .s) (p : ℕ) (q : Place) (r : InBlock (rowSizes (layoutOf G)) p q) where
-  pub row-even : q .item < 14 → KeyStands (rowBlocks G) p (key (q .item) (q .at) 0)
-  row-even k = even-stands (rowBlocks G) _ 14 17 (rows-even G) (rows-sized G h) (omega arith) p q r k
+    pub segment-stands : q .item ≡ costRows → (g : Place) → Located Segments b (l .n + l .m) (l .k) (q .at) g → RowStands G p (Segment (g .item) (g .at))
+    unfolding pointsOf
+    segment-stands e g f =
+        let n = rw (segments-tally (l .n) (l .m) (l .k) (l .s) b (g .item)) at (f .number) in
+        record {
+          valid = row-valid G (Segment (g .item) (g .at)) (f .below, f .inside);
+          number = sym (laid-segment l b h (g .item) (g .at)) ∙ rw n (rw e at (row-there (omega arith)));
+        }
 
-  in-rows : (b : ℕ) → q .item ≡ b → b ≤ 17 → (q .at < getD (rowSizes (layoutOf G)) b 0) × (before (rowBlocks G) b + q .at ≡ p)
-  in-rows b e l =
-      let n : startIn (rowSizes (layoutOf G)) b + q .at ≡ p = rw e at (r .number) in
-      (rw e at (r .inside), omega (arith, start-is (rowBlocks G) (rowSizes (layoutOf G)) 17 (rows-sized G h) b l))
+    pub jabr-stands : q .item ≡ jabrRows → RowStands G p (Jabr (q .at / 4) (q .at % 4))
+    jabr-stands e =
+        record {
+          valid = row-valid G (Jabr (q .at / 4) (q .at % 4)) (omega (arith, inside jabrRows e, jabr-length l), omega arith);
+          number = omega (arith, laid-row l b h (Jabr (q .at / 4) (q .at % 4)) refl, jabr-number l (q .at / 4) (q .at % 4), place-there jabrRows e);
+        }
 
-  pub segment-in : q .item ≡ 14 → q .at < sum (G .k) (G .segments)
-  segment-in e = omega (arith, in-rows 14 e (omega arith) .0)
+    pub thermal-in : q .item ≡ thermalRows → q .at / 6 < tallyOf Limited b (l .n) (l .m)
+    thermal-in e =
+        omega (arith, inside thermalRows e, thermal-length l, limits-are l b h, limits-tally (l .n) (l .m) (l .k) (l .s) b)
 
-  pub segment-stands : q .item ≡ 14 → (g t : ℕ) → g < G .k → t < G .segments g → sum g (G .segments) + t ≡ q .at
-      → KeyStands (rowBlocks G) p (key 14 g t)
-  segment-stands e g t l i n =
-      record { valid = record { item = l; place = omega arith }; number = omega (arith, in-rows 14 e (omega arith) .1) }
-
-  pub jabr-stands : q .item ≡ 15 → KeyStands (rowBlocks G) p (key 15 (q .at / 4) (q .at % 4))
-  jabr-stands e =
-      let i = in-rows 15 e (omega arith) in
-      record { valid = record { item = omega (arith, i .0); place = omega arith }; number = omega (arith, i .1) }
-
-  pub thermal-in : q .item ≡ 16 → q .at / 6 < count (G .m) (G .limited)
-  thermal-in e = omega (arith, in-rows 16 e (omega arith) .0)
-
-  pub thermal-stands : q .item ≡ 16 → (e j : ℕ) → e < G .m → j < bit (G .limited e) → count e (G .limited) + j ≡ q .at / 6
-      → KeyStands (rowBlocks G) p (key 16 e (q .at % 6))
-  thermal-stands e b j l i n =
-      let f = bit-le (G .limited b) in
-      record { valid = record { item = l; place = omega arith }; number = omega (arith, in-rows 16 e (omega arith) .1) }
+    pub thermal-stands : q .item ≡ thermalRows → (e : Place) → Located Limited b (l .n) (l .m) (q .at / 6) e
+        → RowStands G p (Thermal (e .item) (q .at % 6))
+    unfolding pointsOf
+    thermal-stands i e f =
+        let t = bit-held (e .at) (G .limited (e .item)) (f .inside) in
+        let n : count (e .item) (G .limited) ≡ q .at / 6 = omega (arith, f .number, limited-before (l .n) (l .m) (l .k) (l .s) b (e .item)) in
+        let z = rw n at (laid-thermal l b h (e .item) (q .at % 6)) in
+        record {
+          valid = row-valid G (Thermal (e .item) (q .at % 6)) (f .below, t .0, omega arith);
+          number = omega (arith, z, thermal-number l (q .at / 6) (q .at % 6), place-there thermalRows i);
+        }

@@ -46,10 +46,12 @@ fn column_at(l: SocWrLayout, bytes: &[u8], p: usize) -> ColumnName
 {
     let sizes = blocks::column_sizes(l);
     let q = blocks::block_of(&sizes, p);
-    if q.item < blocks::COST {
-        return keys::plain_column(q.item, q.at);
+    let block = q.item;
+    let at = q.at;
+    if block < blocks::COST {
+        return keys::plain_column(block, at);
     }
-    let g = locate(bytes, Tally::Piecewise, l.n + l.m, l.k, q.at);
+    let g = locate(bytes, Tally::Piecewise, l.n + l.m, l.k, at);
     ColumnName::CostOf(g.item)
 }
 
@@ -60,15 +62,16 @@ fn row_at(l: SocWrLayout, bytes: &[u8], p: usize) -> RowName
 {
     let sizes = blocks::row_sizes(l);
     let q = blocks::block_of(&sizes, p);
+    let block = q.item;
     let at = q.at;
-    if q.item < blocks::SEGMENT {
-        return keys::plain_row(q.item, at);
+    if block < blocks::SEGMENT {
+        return keys::plain_row(block, at);
     }
-    if q.item == blocks::SEGMENT {
+    if block == blocks::SEGMENT {
         let g = locate(bytes, Tally::Segments, l.n + l.m, l.k, at);
         return RowName::Segment(g.item, g.at);
     }
-    if q.item == blocks::JABR {
+    if block == blocks::JABR {
         return RowName::Jabr(at / 4, at % 4);
     }
     let e = locate(bytes, Tally::Limited, l.n, l.m, at / 6);

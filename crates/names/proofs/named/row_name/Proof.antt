@@ -1,46 +1,57 @@
--- `names::named::row_name` meets its contract. Assumes nothing.
-use mathlib.Core.Path.{sym, ap, _∙_}
-use native.Mathlib.Omega.{arith}
-use Rattle.records.specs.Network.{networkOf}
-use Rattle.records.proofs.Laws.{accepted}
-use Rattle.numbering.specs.Numbering.{ncon}
-use Rattle.numbering.specs.Layout.{nconOf}
-use Rattle.names.specs.Named.{rowNamed}
-use Rattle.numbering.specs.declared.SocWrLayout.{SocWrLayout}
-use Rattle.numbering.proofs.Entered.{gone-on}
-use Rattle.numbering.proofs.Layouts.{accepted-range, ncon-layout}
-use Rattle.names.proofs.Standing.{valid-row}
-use Rattle.names.proofs.Answers.{row-stopped, row-past, row-given, row-right}
+-- `names::named::row_name` meets its contract: the check's answer, 7 past the end, and else the name that stands there. Assumes nothing.
 use borrow.Author.Needs.{needs}
-use Rattle.numbering.specs.declared.RowName.the-variants.{Pbal}
+use Prim.Native.Nat.{_<_}
+use mathlib.Core.Path.{sym, _∙_}
+use native.Mathlib.Omega.{arith}
+use Rattle.refusals.proofs.Laws.{accepted-by}
+use Rattle.records.specs.Network.{networkOf}
+use Rattle.numbering.specs.Numbering.{ncon}
+use Rattle.names.specs.Named.{rowNamed}
+use Rattle.numbering.proofs.Laid.{laid-ncon}
+use Rattle.numbering.proofs.OnePass.{pass-layout, pass-laid, pass-ncon}
+use Rattle.numbering.proofs.Names.{row-only}
+use Rattle.names.proofs.Answers.{row-stopped, row-past, row-given}
 use Rattle.names.proofs.named.row_name.Statement.{statement}
 use Rattle.names.proofs.named.row_name.Tie as tie
 
 returns : tie.Need-returns
 unfolding rowNamed
-returns c = row-stopped (Pbal 0) _ _ (c .no-row .ensures) (c .before .before .before .check-records .ensures) (sym (c .before .before .is-refused .ensures) ∙ c .before .if1 .taken)
-
-layout-requires : tie.Need-layout-requires
-layout-requires c κs = accepted _ _ _ _ _ (gone-on (c .before .before .check-records .ensures) (sym (c .before .is-refused .ensures) ∙ c .if1 .left))
+returns c =
+    let p = c .before .before .before .check-layout .ensures in
+    row-stopped _ _ _ (c .no-row .ensures) (p .check) (sym (c .before .before .is-refused .ensures) ∙ c .before .if1 .taken)
 
 row-count-requires : tie.Need-row-count-requires
-row-count-requires c κs = rw (c .layout .ensures) (accepted-range _ _ _ _ _ (accepted _ _ _ _ _ (gone-on (c .before .before .before .check-records .ensures) (sym (c .before .before .is-refused .ensures) ∙ c .before .if1 .left))))
+row-count-requires c κs =
+    let p = c .before .before .before .check-layout .ensures in
+    pass-laid p (accepted-by (p .check) (c .before .before .is-refused .ensures) (c .before .if1 .left)) .range
 
 returns-2 : tie.Need-returns-2
 unfolding rowNamed
-returns-2 c = let G = networkOf (c .before .before .before .before .before .before .before .args .n) (c .before .before .before .before .before .before .before .args .m) (c .before .before .before .before .before .before .before .args .k) (c .before .before .before .before .before .before .before .args .s) (c .before .before .before .before .before .before .before .args .bytes .now) in let z = c .before .row-count .ensures ∙ ap (λ (l : SocWrLayout). nconOf l) (c .before .before .layout .ensures) ∙ ncon-layout G ((accepted _ _ _ _ _ (gone-on (c .before .before .before .before .before .check-records .ensures) (sym (c .before .before .before .before .is-refused .ensures) ∙ c .before .before .before .if1 .left))) .counts-add) in row-past _ _ _ (gone-on (c .before .before .before .before .before .check-records .ensures) (sym (c .before .before .before .before .is-refused .ensures) ∙ c .before .before .before .if1 .left)) (omega (arith, z))
+returns-2 c =
+    let asked = c .before .before .before .before in
+    let p = asked .before .check-layout .ensures in
+    let ok = accepted-by (p .check) (asked .is-refused .ensures) (c .before .before .before .if1 .left) in
+    row-past _ _ _ ok (omega (arith, c .before .row-count .ensures, pass-ncon p ok))
 
-row-key-at-requires : tie.Need-row-key-at-requires
-row-key-at-requires c κs = let G = networkOf (c .before .before .before .before .before .before .before .args .n) (c .before .before .before .before .before .before .before .args .m) (c .before .before .before .before .before .before .before .args .k) (c .before .before .before .before .before .before .before .args .s) (c .before .before .before .before .before .before .before .args .bytes .now) in let z = c .before .row-count .ensures ∙ ap (λ (l : SocWrLayout). nconOf l) (c .before .before .layout .ensures) ∙ ncon-layout G ((accepted _ _ _ _ _ (gone-on (c .before .before .before .before .before .check-records .ensures) (sym (c .before .before .before .before .is-refused .ensures) ∙ c .before .before .before .if1 .left))) .counts-add) in (accepted _ _ _ _ _ (gone-on (c .before .before .before .before .before .check-records .ensures) (sym (c .before .before .before .before .is-refused .ensures) ∙ c .before .before .before .if1 .left)), c .before .before .layout .ensures, omega (arith, z))
-
-row-of-requires : tie.Need-row-of-requires
-row-of-requires c κs = let G = networkOf (c .before .before .before .before .before .before .before .before .args .n) (c .before .before .before .before .before .before .before .before .args .m) (c .before .before .before .before .before .before .before .before .args .k) (c .before .before .before .before .before .before .before .before .args .s) (c .before .before .before .before .before .before .before .before .args .bytes .now) in valid-row G (c .row-key-at .result) (c .row-key-at .ensures .valid)
+row-at-requires : tie.Need-row-at-requires
+row-at-requires c κs =
+    let asked = c .before .before .before .before in
+    let p = asked .before .check-layout .ensures in
+    let ok = accepted-by (p .check) (asked .is-refused .ensures) (c .before .before .before .if1 .left) in
+    (pass-laid p ok, omega (arith, c .before .row-count .ensures, laid-ncon _ _ (pass-laid p ok)))
 
 returns-3 : tie.Need-returns-3
 unfolding rowNamed
-returns-3 c = let G = networkOf (c .before .before .before .before .before .before .before .before .before .args .n) (c .before .before .before .before .before .before .before .before .before .args .m) (c .before .before .before .before .before .before .before .before .before .args .k) (c .before .before .before .before .before .before .before .before .before .args .s) (c .before .before .before .before .before .before .before .before .before .args .bytes .now) in let z = c .before .before .before .row-count .ensures ∙ ap (λ (l : SocWrLayout). nconOf l) (c .before .before .before .before .layout .ensures) ∙ ncon-layout G ((accepted _ _ _ _ _ (gone-on (c .before .before .before .before .before .before .before .check-records .ensures) (sym (c .before .before .before .before .before .before .is-refused .ensures) ∙ c .before .before .before .before .before .if1 .left))) .counts-add) in row-given (ncon G) (c .before .before .before .before .before .before .before .before .before .args .p) _ _ (gone-on (c .before .before .before .before .before .before .before .check-records .ensures) (sym (c .before .before .before .before .before .before .is-refused .ensures) ∙ c .before .before .before .before .before .if1 .left)) (omega (arith, z)) (row-right G (c .before .before .before .before .before .before .before .before .before .args .p) (c .before .row-key-at .result) _ (record { block = c .row-of .ensures .block; item = c .row-of .ensures .item; place = c .row-of .ensures .place }) (c .before .row-key-at .ensures))
+returns-3 c =
+    let asked = c .before .before .before .before .before in
+    let p = asked .before .check-layout .ensures in
+    let ok = accepted-by (p .check) (asked .is-refused .ensures) (c .before .before .before .before .if1 .left) in
+    let a = asked .before .before .before .args in
+    let below : a .p < ncon (networkOf (a .n) (a .m) (a .k) (a .s) (a .bytes .now)) = omega (arith, c .before .before .row-count .ensures, pass-ncon p ok) in
+    row-given _ _ _ _ ok below (row-only _ _ below _ (rw (pass-layout p ok) at (c .row-at .ensures)))
 
 pub row-name-spec : {M : Type 1} → statement M
 row-name-spec =
     tie.close
-    (tie.spec (λ c κs. search needs) (λ c κs. search needs) (λ c κs. search needs) returns layout-requires row-count-requires (λ c. search needs) returns-2 row-key-at-requires row-of-requires returns-3)
+    (tie.spec (λ c κs. search needs) (λ c κs. search needs) (λ c κs. search needs) returns row-count-requires (λ c. search needs)
+    returns-2 row-at-requires returns-3)
