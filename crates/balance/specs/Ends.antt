@@ -9,7 +9,7 @@ use lib.Ieee.{Float, neg, ne}
 use Rattle.lists.specs.UpTo.{each, when}
 use Rattle.lists.specs.Entries.{Entry, entry}
 use Rattle.records.specs.AcNetwork.{AcNetwork}
-use Rattle.numbering.specs.Layout.{layoutColumn}
+use Rattle.numbering.specs.Numbering.{columnNumber}
 use Rattle.numbering.specs.declared.SocWrLayout.{SocWrLayout}
 use Rattle.numbering.specs.declared.ColumnName.{ColumnName}
 use Rattle.numbering.specs.declared.ColumnName.the-variants.{Pg, Qg, W, Pf, Pt, Qf, Qt}
@@ -55,29 +55,29 @@ selfValue G true i = G .bs i
 
 -- the ends at bus i, as entries of row r
 unfoldable pub endsAt : SocWrLayout → AcNetwork Float → Bool → End → ℕ → ℕ → List Entry
-endsAt l G q end i r = each (endCount l end) (λ j. when (eqb (endBus G end j) i) (entry r (layoutColumn l (endColumn q end j)) (constant64 (endConstant end)) ∷ []))
+endsAt l G q end i r = each (endCount l end) (λ j. when (eqb (endBus G end j) i) (entry r (columnNumber G (endColumn q end j)) (constant64 (endConstant end)) ∷ []))
 
 -- ---- the same entries in the order in which passes over the records meet them: by end, not by bus; r is the row of bus 0
-abbrev pub endPass : SocWrLayout → AcNetwork Float → Bool → ℕ → End → Pass
-endPass l G q r end =
+abbrev pub endPass : AcNetwork Float → Bool → ℕ → End → Pass
+endPass G q r end =
     record {
       test = λ j. true;
       keys = λ j. endBus G end j;
-      entries = λ j. entry (r + endBus G end j) (layoutColumn l (endColumn q end j)) (constant64 (endConstant end));
+      entries = λ j. entry (r + endBus G end j) (columnNumber G (endColumn q end j)) (constant64 (endConstant end));
     }
 
-abbrev pub selfPass : SocWrLayout → AcNetwork Float → Bool → ℕ → Pass
-selfPass l G q r =
+abbrev pub selfPass : AcNetwork Float → Bool → ℕ → Pass
+selfPass G q r =
     record {
       test = λ j. ne (selfValue G q j) zero64;
       keys = λ j. j;
-      entries = λ j. entry (r + j) (layoutColumn l (W j)) (selfValue G q j);
+      entries = λ j. entry (r + j) (columnNumber G (W j)) (selfValue G q j);
     }
 
 unfoldable pub items : SocWrLayout → AcNetwork Float → Bool → ℕ → List Item
 items l G q r =
-    each (endCount l Gen) (pass (endPass l G q r Gen)) ++ each (l .n) (pass (selfPass l G q r))
-    ++ each (endCount l From) (pass (endPass l G q r From)) ++ each (endCount l To) (pass (endPass l G q r To))
+    each (endCount l Gen) (pass (endPass G q r Gen)) ++ each (l .n) (pass (selfPass G q r))
+    ++ each (endCount l From) (pass (endPass G q r From)) ++ each (endCount l To) (pass (endPass G q r To))
 
 -- the cursors stand at the rows' starts, and can move on to the end
 pub record Begins (n at : ℕ) (xs : List Item) (ct : List ℕ) (next : ℕ) : Type 0 where
