@@ -1,11 +1,14 @@
 -- The numbers of a branch's Ohm rows and columns, and its ten series entries at them.
 use Prim.Native.Nat.{ℕ, _+_}
+use mathlib.Core.Path.{_≡_}
 use mathlib.Core.List.{List, [], _∷_, map}
 use lib.ListN.{getD}
 use lib.Ieee.{Float, binary64, nan, mul}
 use Rattle.numbering.specs.Layout.{layoutRow, layoutColumn, nvarOf}
 use Rattle.numbering.specs.declared.SocWrLayout.{SocWrLayout}
+use Rattle.numbering.specs.declared.ColumnName.the-variants.{W, Wr, Wi}
 use Rattle.numbering.specs.declared.RowName.{RowName}
+use Rattle.numbering.specs.declared.RowName.the-variants.{OhmPf, OhmQf, OhmPt, OhmQt}
 use Rattle.rows.specs.Ops.{rounded}
 use Rattle.rows.specs.Rows.{value64, OhmRow, pf, qf, pt, qt, OhmPlace, w, wr, wi, flow}
 use Rattle.interface.specs.declared.GB.{GB}
@@ -20,6 +23,19 @@ use Rattle.admittance.specs.declared.inner.series.Entry.{Entry}
 -- a row of the program as a row of the KKT matrix
 abbrev pub kktIn : SocWrLayout → RowName → ℕ
 kktIn l x = nvarOf l + layoutRow l x
+
+-- the numbers of branch e's Ohm rows, and of their columns between two buses
+pub record RowsAre (l : SocWrLayout) (e : ℕ) (r : OhmRows) : Type 0 where
+  pub pf : r .pf ≡ layoutRow l (OhmPf e)
+  pub qf : r .qf ≡ layoutRow l (OhmQf e)
+  pub pt : r .pt ≡ layoutRow l (OhmPt e)
+  pub qt : r .qt ≡ layoutRow l (OhmQt e)
+
+pub record ColumnsAre (l : SocWrLayout) (from to e : ℕ) (c : OhmColumns) : Type 0 where
+  pub from-w : c .from ≡ layoutColumn l (W from)
+  pub to-w : c .to ≡ layoutColumn l (W to)
+  pub wr : c .wr ≡ layoutColumn l (Wr e)
+  pub wi : c .wi ≡ layoutColumn l (Wi e)
 
 abbrev pub rowIn : OhmRows → OhmRow → ℕ
 rowIn rs pf = rs .pf

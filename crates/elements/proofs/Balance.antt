@@ -1,15 +1,17 @@
--- The number that a layout gives a balance row is its network's. Assumes nothing.
+-- The number that a layout gives a balance row is its network's: the counts give both. Assumes nothing.
 use Prim.Native.Nat.{ℕ}
-use mathlib.Core.Path.{_≡_, refl}
+use mathlib.Core.Path.{_≡_, sym, _∙_}
 use mathlib.Core.List.{List}
 use Rattle.numbering.specs.Numbering.{rowNumber}
 use Rattle.numbering.specs.Layout.{layoutRow}
+use Rattle.numbering.specs.Laid.{netOf}
 use Rattle.numbering.specs.declared.SocWrLayout.{SocWrLayout}
+use Rattle.numbering.specs.declared.RowName.the-variants.{Pbal, Qbal}
+use Rattle.numbering.proofs.Numbers.{layout-row, row-number}
 use Rattle.interface.specs.declared.Power.{Power}
 use Rattle.interface.specs.declared.Power.the-variants.{Active, Reactive}
-use Rattle.records.specs.Network.{networkOf}
 use Rattle.elements.specs.Balance.{balanceRow}
 
-pub balance-number : (l : SocWrLayout) (b : List ℕ) (power : Power) (i : ℕ) → layoutRow l (balanceRow power i) ≡ rowNumber (networkOf (l .n) (l .m) (l .k) (l .s) b) (balanceRow power i)
-balance-number l b Active i = refl
-balance-number l b Reactive i = refl
+pub balance-number : (l : SocWrLayout) (b : List ℕ) (power : Power) (i : ℕ) → layoutRow l (balanceRow power i) ≡ rowNumber (netOf l b) (balanceRow power i)
+balance-number l b Active i = layout-row l (Pbal i) ∙ sym (row-number (netOf l b) (Pbal i))
+balance-number l b Reactive i = layout-row l (Qbal i) ∙ sym (row-number (netOf l b) (Qbal i))

@@ -8,13 +8,11 @@ use records::inner::br_from;
 use records::inner::br_to;
 ghost use mathlib.Core.Path.{_≡_};
 ghost use Prim.Native.Nat.{_<_};
-ghost use Rattle.numbering.specs.Layout.{InRange, layoutColumn, layoutRow};
+ghost use Rattle.numbering.specs.Layout.{InRange};
 ghost use Rattle.numbering.specs.Laid.{netOf, Laid};
-ghost use Rattle.numbering.specs.declared.ColumnName.the-variants.{W, Wr, Wi};
-ghost use Rattle.numbering.specs.declared.RowName.the-variants.{OhmPf, OhmQf, OhmPt, OhmQt};
 ghost use Rattle.admittance.specs.Stores.{storedAll};
 ghost use Rattle.admittance.specs.Admittance.{seriesStores};
-ghost use Rattle.admittance.specs.Places.{seriesEntries, landedAll};
+ghost use Rattle.admittance.specs.Places.{RowsAre, ColumnsAre, seriesEntries, landedAll};
 
 // The numbers of a branch's Ohm rows, and of their columns but the flows'.
 pub struct OhmRows {
@@ -37,7 +35,7 @@ pub struct Entry(pub u32, pub u32, pub f64);
 fn ohm_rows(l: SocWrLayout, e: usize) -> OhmRows
     requires { ⌜ InRange l ⌝ }
     requires { ⌜ e < l .m ⌝ }
-    ensures { λ r. ⌜ (r .pf ≡ layoutRow l (OhmPf e)) × (r .qf ≡ layoutRow l (OhmQf e)) × (r .pt ≡ layoutRow l (OhmPt e)) × (r .qt ≡ layoutRow l (OhmQt e)) ⌝ }
+    ensures { λ r. ⌜ RowsAre l e r ⌝ }
 {
     OhmRows {
         pf: l.ohm_pf_row(e),
@@ -50,7 +48,7 @@ fn ohm_rows(l: SocWrLayout, e: usize) -> OhmRows
 fn ohm_columns(l: SocWrLayout, from: usize, to: usize, e: usize) -> OhmColumns
     requires { ⌜ InRange l ⌝ }
     requires { ⌜ (from < l .n) × (to < l .n) × (e < l .m) ⌝ }
-    ensures { λ r. ⌜ (r .from ≡ layoutColumn l (W from)) × (r .to ≡ layoutColumn l (W to)) × (r .wr ≡ layoutColumn l (Wr e)) × (r .wi ≡ layoutColumn l (Wi e)) ⌝ }
+    ensures { λ r. ⌜ ColumnsAre l from to e r ⌝ }
 {
     OhmColumns {
         from: l.w_column(from),

@@ -39,5 +39,13 @@ pub fn shunt(l: SocWrLayout, gb: GB, i: usize, x: &[f64], z: &[f64], column: &mu
     ensures { λ _. ⌜ now (column .exit) ≡ storedAll (plus (kktIn l (shuntRow gb i)) (mul binary64 (shuntEntry gb) (getD (now (x .entry)) (layoutColumn l (W i)) nan)) ∷ plus (layoutColumn l (W i)) (mul binary64 (shuntEntry gb) (getD (now (z .entry)) (layoutRow l (shuntRow gb i)) nan)) ∷ []) (now (column .entry)) ⌝ }
 {
     let row = shunt_row(l, gb, i);
-    land(column, l.column_count(), row, l.w_column(i), shunt_entry(gb), x, z);
+    land(
+        column,
+        l.column_count(),
+        row,
+        l.w_column(i),
+        shunt_entry(gb),
+        x,
+        z,
+    );
 }
