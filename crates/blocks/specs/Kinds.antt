@@ -1,4 +1,4 @@
--- The rows that bound one thing each, the Ohm rows and the thermal cones, by kind.
+-- The rows that bound one thing each and the thermal cones, by kind.
 use Prim.Native.Nat.{ℕ}
 use mathlib.Core.Bool.{Bool}
 use mathlib.Core.List.{List, _++_}
@@ -8,14 +8,11 @@ use Rattle.lists.specs.Entries.{Entry}
 use Rattle.records.specs.AcNetwork.{AcNetwork}
 use Rattle.numbering.specs.declared.SocWrLayout.{SocWrLayout}
 use Rattle.numbering.specs.declared.RowName.{RowName}
-use Rattle.numbering.specs.declared.RowName.the-variants.{OhmPf, OhmQf, OhmPt, OhmQt}
 use Rattle.numbering.specs.declared.RowName.the-variants as RowName
 use Rattle.rows.specs.Program.{thermalFrom, thermalTo}
 use Rattle.complementarity.specs.Writes.{coneIn}
 use Rattle.blocks.specs.declared.Bound.{Bound}
 use Rattle.blocks.specs.declared.Bound.the-variants.{Wub, Wlb, Pgub, Pglb, Qgub, Qglb, Angub, Anglb}
-use Rattle.blocks.specs.declared.Flow.{Flow}
-use Rattle.blocks.specs.declared.Flow.the-variants.{Pf, Qf, Pt, Qt}
 
 abbrev pub boundName : Bound → ℕ → RowName
 boundName Wub i = RowName.Wub i
@@ -37,12 +34,6 @@ boundCount l Qgub = l .k
 boundCount l Qglb = l .k
 boundCount l Angub = l .m
 boundCount l Anglb = l .m
-
-abbrev pub flowName : Flow → ℕ → RowName
-flowName Pf e = OhmPf e
-flowName Qf e = OhmQf e
-flowName Pt e = OhmPt e
-flowName Qt e = OhmQt e
 
 -- the cones of a branch, where it is limited
 unfoldable pub thermalIn : AcNetwork Float → List Float → List Float → Bool → ℕ → List Entry

@@ -12,11 +12,3 @@ pub enum Bound {
     Angub,
     Anglb,
 }
-
-// The kinds of Ohm rows.
-pub enum Flow {
-    Pf,
-    Qf,
-    Pt,
-    Qt,
-}

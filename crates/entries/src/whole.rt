@@ -1,13 +1,13 @@
 // The parts of the list, each after the other.
 use balance::inner::sorted::balance_rows;
 use blocks::Bound;
-use blocks::Flow;
 use blocks::inner::bounds::bound_rows;
 use blocks::inner::cones::jabr_rows;
 use blocks::inner::cones::thermal_rows;
 use blocks::inner::ohm::ohm_rows;
 use blocks::inner::quadratic::put_quadratic;
 use blocks::inner::segments::segment_rows;
+use branch::OhmRow;
 use numbering::SocWrLayout;
 ghost use mathlib.Core.Path.{_≡_};
 ghost use Prim.Native.Nat.{_+_, _<_, _^_};
@@ -37,10 +37,10 @@ fn equality_rows(
 {
     let n1 = balance_rows(rows, cols, vals, at, l, bytes, false);
     let n2 = balance_rows(rows, cols, vals, n1, l, bytes, true);
-    let n3 = ohm_rows(rows, cols, vals, n2, l, bytes, Flow::Pf);
-    let n4 = ohm_rows(rows, cols, vals, n3, l, bytes, Flow::Qf);
-    let n5 = ohm_rows(rows, cols, vals, n4, l, bytes, Flow::Pt);
-    ohm_rows(rows, cols, vals, n5, l, bytes, Flow::Qt)
+    let n3 = ohm_rows(rows, cols, vals, n2, l, bytes, OhmRow::Pf);
+    let n4 = ohm_rows(rows, cols, vals, n3, l, bytes, OhmRow::Qf);
+    let n5 = ohm_rows(rows, cols, vals, n4, l, bytes, OhmRow::Pt);
+    ohm_rows(rows, cols, vals, n5, l, bytes, OhmRow::Qt)
 }
 
 fn first_bounds(

@@ -1,8 +1,14 @@
 // q and b: lists of floats.
-use branch::inner::conic_angle_bound_active;
+use bounds::inner::angle;
+use bounds::inner::lower_active;
+use bounds::inner::lower_reactive;
+use bounds::inner::lower_voltage;
+use bounds::inner::segment_side;
+use bounds::inner::upper_active;
+use bounds::inner::upper_reactive;
+use bounds::inner::upper_voltage;
 use numbering::SocWrLayout;
 ghost use mathlib.Core.Path.{_≡_};
-ghost use mathlib.Core.Bool.{cond};
 ghost use Prim.Native.Nat.{_+_, _*_, _≤_, _<_};
 ghost use lib.ListN.{length};
 ghost use lib.Ieee.{neg};
@@ -10,23 +16,12 @@ ghost use Rattle.lists.specs.UpTo.{each, listed, when, overlay};
 ghost use Rattle.records.specs.Fields.{interceptOf};
 ghost use Rattle.numbering.specs.Layout.{nvarOf, nconOf};
 ghost use Rattle.numbering.specs.Laid.{netOf, Laid};
-ghost use Rattle.rows.specs.Ops.{rounded};
 ghost use Rattle.rows.specs.Program.{linear};
 ghost use Rattle.matrix.specs.Lists.{rightSide};
 ghost use Rattle.cells.specs.Filled.{Filled};
 ghost use Rattle.sides.specs.Sides.{BusBlock, GenBlock, FilledTwice, sideAt, balanceSides, voltageSides, generatorSides, angleSides, ratingSides, ratingsAt, linearCost};
 
 pub mod quadratic;
-
-// The value where a bound is active, else 1.
-fn active(on: bool, v: f64) -> f64
-    ensures { λ r. ⌜ r ≡ cond on v (rounded .one) ⌝ }
-{
-    if on {
-        return v;
-    }
-    1.0
-}
 
 // The right side of bus i in block pbal, qbal, wub or wlb.
 fn bus_rhs(l: SocWrLayout, bytes: &[u8], block: usize, i: usize) -> f64
@@ -41,13 +36,12 @@ fn bus_rhs(l: SocWrLayout, bytes: &[u8], block: usize, i: usize) -> f64
     if block == 1 {
         return records::inner::qd(bytes, i);
     }
-    let on = records::inner::voltage_bound_active(bytes, i);
     if block == 6 {
-        let v = records::inner::vm_max(bytes, i);
-        return active(on, v * v);
+        let s = upper_voltage(l, bytes, i);
+        return s.rhs;
     }
-    let v = records::inner::vm_min(bytes, i);
-    active(on, -v * v)
+    let s = lower_voltage(l, bytes, i);
+    s.rhs
 }
 
 // The right side of generator g in block pgub, pglb, qgub or qglb.
@@ -57,18 +51,20 @@ fn gen_rhs(l: SocWrLayout, bytes: &[u8], block: usize, g: usize) -> f64
     requires { ⌜ g < l .k ⌝ }
     ensures { λ r. ⌜ r ≡ sideAt l (now (bytes .entry)) block g ⌝ }
 {
-    let r = l.n + l.m + g;
-    let on = records::inner::generator_capability_active(bytes, r);
     if block == 8 {
-        return active(on, records::inner::pmax(bytes, r));
+        let s = upper_active(l, bytes, g);
+        return s.rhs;
     }
     if block == 9 {
-        return active(on, -records::inner::pmin(bytes, r));
+        let s = lower_active(l, bytes, g);
+        return s.rhs;
     }
     if block == 10 {
-        return active(on, records::inner::qmax(bytes, r));
+        let s = upper_reactive(l, bytes, g);
+        return s.rhs;
     }
-    active(on, -records::inner::qmin(bytes, r))
+    let s = lower_reactive(l, bytes, g);
+    s.rhs
 }
 
 // The right side of branch e in angub and in anglb.
@@ -78,7 +74,8 @@ fn angle_rhs(l: SocWrLayout, bytes: &[u8], e: usize) -> f64
     ensures { λ r. ⌜ r ≡ sideAt l (now (bytes .entry)) 12 e ⌝ }
     ensures { λ r. ⌜ r ≡ sideAt l (now (bytes .entry)) 13 e ⌝ }
 {
-    active(conic_angle_bound_active(bytes, l.n + e), 0.0)
+    let s = angle(l, bytes, e);
+    s.rhs
 }
 
 // pbal and qbal at the front; wub and wlb from voltage on.
@@ -138,7 +135,7 @@ fn fill_intercepts(out: &mut [f64], at: usize, bytes: &[u8], first: usize, count
 {
     let mut i = 0;
     while i < count {
-        out[at + i] = -records::inner::intercept(bytes, first + i);
+        out[at + i] = segment_side(bytes, first + i);
         i += 1;
     }
 }

@@ -1,10 +1,7 @@
 // The Ohm rows.
-use crate::Flow;
+use branch::OhmRow;
 use lines::Ohm;
-use lines::inner::ohm::ohm_pf;
-use lines::inner::ohm::ohm_pt;
-use lines::inner::ohm::ohm_qf;
-use lines::inner::ohm::ohm_qt;
+use lines::inner::ohm::ohm_line;
 use lists::inner::put;
 use lists::inner::put_if;
 use numbering::SocWrLayout;
@@ -13,8 +10,9 @@ ghost use lib.ListN.{length};
 ghost use Rattle.lists.specs.Out.{out, Wrote};
 ghost use Rattle.lists.specs.UpTo.{each};
 ghost use Rattle.kkt.specs.Kkt.{plainRow};
-ghost use Rattle.lines.specs.Ohm.{ohmAt, OhmStands};
-ghost use Rattle.blocks.specs.Kinds.{flowName};
+ghost use Rattle.rows.specs.Rows.{ohmRow};
+ghost use Rattle.branch.specs.Ohm.{rowKind};
+ghost use Rattle.lines.specs.Ohm.{ohmAt};
 ghost use Rattle.numbering.specs.Laid.{netOf, Laid};
 
 fn put_ohm(rows: &mut [u32], cols: &mut [u32], vals: &mut [f64], at: usize, r: u32, o: Ohm) -> usize
@@ -30,19 +28,6 @@ fn put_ohm(rows: &mut [u32], cols: &mut [u32], vals: &mut [f64], at: usize, r: u
     put(rows, cols, vals, n3, r, o.flow, 1.0)
 }
 
-fn ohm_line(l: SocWrLayout, bytes: &[u8], flow: Flow, e: usize) -> Ohm
-    requires { ⌜ Laid l (now bytes) ⌝ }
-    requires { ⌜ e < l .m ⌝ }
-    ensures { λ r. ⌜ OhmStands (netOf l (now (bytes .entry))) (flowName flow e) r ⌝ }
-{
-    match flow {
-        Flow::Pf => ohm_pf(l, bytes, e),
-        Flow::Qf => ohm_qf(l, bytes, e),
-        Flow::Pt => ohm_pt(l, bytes, e),
-        Flow::Qt => ohm_qt(l, bytes, e),
-    }
-}
-
 fn ohm_row(
     rows: &mut [u32],
     cols: &mut [u32],
@@ -50,20 +35,20 @@ fn ohm_row(
     at: usize,
     l: SocWrLayout,
     bytes: &[u8],
-    flow: Flow,
+    q: OhmRow,
     e: usize,
 ) -> usize
     requires { ⌜ Laid l (now bytes) ⌝ }
     requires { ⌜ e < l .m ⌝ }
-    requires { ⌜ at + length (plainRow (netOf l (now bytes)) (flowName flow e)) < 2 ^ 64 ⌝ }
-    ensures { λ next. ⌜ Wrote (plainRow (netOf l (now (bytes .entry))) (flowName flow e)) (out (now (rows .entry)) (now (cols .entry)) (now (vals .entry)) at) (out (now (rows .exit)) (now (cols .exit)) (now (vals .exit)) next) ⌝ }
+    requires { ⌜ at + length (plainRow (netOf l (now bytes)) (ohmRow (rowKind q) e)) < 2 ^ 64 ⌝ }
+    ensures { λ next. ⌜ Wrote (plainRow (netOf l (now (bytes .entry))) (ohmRow (rowKind q) e)) (out (now (rows .entry)) (now (cols .entry)) (now (vals .entry)) at) (out (now (rows .exit)) (now (cols .exit)) (now (vals .exit)) next) ⌝ }
 {
-    let o = ohm_line(l, bytes, flow, e);
+    let o = ohm_line(l, bytes, q, e);
     let r = l.column_count() + o.row;
     put_ohm(rows, cols, vals, at, r, o)
 }
 
-// The rows of one flow.
+// The rows of one kind.
 pub fn ohm_rows(
     rows: &mut [u32],
     cols: &mut [u32],
@@ -71,16 +56,16 @@ pub fn ohm_rows(
     at: usize,
     l: SocWrLayout,
     bytes: &[u8],
-    flow: Flow,
+    q: OhmRow,
 ) -> usize
     requires { ⌜ Laid l (now bytes) ⌝ }
-    requires { ⌜ at + length (each (l .m) (λ e. plainRow (netOf l (now bytes)) (flowName flow e))) < 2 ^ 64 ⌝ }
-    ensures { λ next. ⌜ Wrote (each (l .m) (λ e. plainRow (netOf l (now (bytes .entry))) (flowName flow e))) (out (now (rows .entry)) (now (cols .entry)) (now (vals .entry)) at) (out (now (rows .exit)) (now (cols .exit)) (now (vals .exit)) next) ⌝ }
+    requires { ⌜ at + length (each (l .m) (λ e. plainRow (netOf l (now bytes)) (ohmRow (rowKind q) e))) < 2 ^ 64 ⌝ }
+    ensures { λ next. ⌜ Wrote (each (l .m) (λ e. plainRow (netOf l (now (bytes .entry))) (ohmRow (rowKind q) e))) (out (now (rows .entry)) (now (cols .entry)) (now (vals .entry)) at) (out (now (rows .exit)) (now (cols .exit)) (now (vals .exit)) next) ⌝ }
 {
     let mut next = at;
     let mut e = 0;
     while e < l.m {
-        next = ohm_row(rows, cols, vals, next, l, bytes, flow, e);
+        next = ohm_row(rows, cols, vals, next, l, bytes, q, e);
         e += 1;
     }
     next

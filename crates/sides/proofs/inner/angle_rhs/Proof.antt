@@ -1,12 +1,12 @@
--- `sides::inner::angle_rhs` meets its contract. Assumes nothing.
+-- `sides::inner::angle_rhs` meets its contract: the two angle rows have one right side. Assumes nothing.
+use Rattle.sides.specs.Sides.{sideAt}
 use borrow.Author.Needs.{needs}
-use denote.Ref.{now}
-use Rattle.sides.proofs.LastBlock.{angle-sides}
 use Rattle.sides.proofs.inner.angle_rhs.Statement.{statement}
 use Rattle.sides.proofs.inner.angle_rhs.Tie as tie
 
 returns : tie.Need-returns
-returns c = angle-sides (c .before .before .before .before .args .l) (now (c .before .before .before .before .args .bytes)) (c .before .before .before .before .args .e) (c .before .conic-angle-bound-active .ensures) (c .active .ensures)
+unfolding sideAt
+returns c = (c .angle .ensures .0 .rhs, c .angle .ensures .1 .rhs)
 
 pub angle-rhs-spec : {M : Type 1} → statement M
-angle-rhs-spec = tie.close (tie.spec (λ c. search needs) (λ c κs. search needs) (λ c κs. search needs) returns)
+angle-rhs-spec = tie.close (tie.spec (λ c κs. search needs) returns)

@@ -1,8 +1,8 @@
--- `sides::inner::bus_rhs` meets its contract. Assumes nothing.
-use borrow.Author.Needs.{needs}
+-- `sides::inner::bus_rhs` meets its contract: the tests tell the block, and each arm is b of its row. Assumes nothing.
 use Rattle.rows.specs.Rows.{b}
 use Rattle.sides.specs.Sides.{sideAt}
 use Rattle.sides.proofs.LastBlock.{last-bus}
+use borrow.Author.Needs.{needs}
 use Rattle.sides.proofs.inner.bus_rhs.Statement.{statement}
 use Rattle.sides.proofs.inner.bus_rhs.Tie as tie
 
@@ -15,12 +15,12 @@ unfolding sideAt b
 returns-2 c = rw (c .before .if2 .taken) (c .qd .ensures)
 
 returns-3 : tie.Need-returns-3
-unfolding sideAt b
-returns-3 c = rw (c .before .before .if3 .taken) (cc)
+unfolding sideAt
+returns-3 c = rw (c .before .if3 .taken) (c .upper-voltage .ensures .rhs)
 
 returns-4 : tie.Need-returns-4
-unfolding sideAt b
-returns-4 c = rw (last-bus (c .before .before .before .before .before .before .before .pre .1 .0) (c .before .before .before .before .before .if1 .left) (c .before .before .before .before .if2 .left) (c .before .before .if3 .left)) (cc)
+unfolding sideAt
+returns-4 c = rw (last-bus (c .before .before .before .before .before .pre .1 .0) (c .before .before .before .if1 .left) (c .before .before .if2 .left) (c .before .if3 .left)) (c .lower-voltage .ensures .rhs)
 
 pub bus-rhs-spec : {M : Type 1} → statement M
-bus-rhs-spec = tie.close (tie.spec (λ c κs. search needs) returns (λ c κs. search needs) returns-2 (λ c κs. search needs) (λ c κs. search needs) (λ c κs. search needs) returns-3 (λ c κs. search needs) (λ c κs. search needs) returns-4)
+bus-rhs-spec = tie.close (tie.spec (λ c κs. search needs) returns (λ c κs. search needs) returns-2 (λ c κs. search needs) returns-3 (λ c κs. search needs) returns-4)

@@ -1,7 +1,6 @@
 -- `sides::inner::fill_intercepts` meets its contract. Assumes nothing.
 use borrow.Author.Needs.{needs}
 use Prim.Native.Nat.{_≤_, _+_, _-_}
-use mathlib.Core.Path.{ap}
 use native.Mathlib.Omega.{arith}
 use lib.Ieee.{neg}
 use Rattle.lists.specs.UpTo.{listed}
@@ -24,7 +23,7 @@ slice-write-out : tie.Need-slice-write-out Inv-loop μ-loop
 slice-write-out c = omega (arith, kept-length (c .before .before .loop .inv .1))
 
 loop-again : tie.Need-loop-again Inv-loop μ-loop
-loop-again c = (omega arith, filled-more _ (c .before .before .loop .inv .1) (ap neg (c .intercept .ensures)))
+loop-again c = (omega arith, filled-more _ (c .before .before .loop .inv .1) (c .segment-side .ensures))
 
 same-length : tie.Need-same-length Inv-loop μ-loop
 same-length c = kept-length (c .before .loop .inv .1)

@@ -6,7 +6,8 @@ use Rattle.lists.specs.Out.{out, Wrote}
 use Rattle.lists.proofs.Written.{no-turn, turn, len-rows, len-cols, len-vals}
 use Rattle.complementarity.proofs.Rooms.{room-turn}
 use Rattle.kkt.specs.Kkt.{plainRow}
-use Rattle.blocks.specs.Kinds.{flowName}
+use Rattle.rows.specs.Rows.{ohmRow}
+use Rattle.branch.specs.Ohm.{rowKind}
 use borrow.Author.Needs.{needs}
 use native.Mathlib.Omega.{arith}
 use Rattle.blocks.proofs.inner.ohm.ohm_rows.Statement.{statement}
@@ -14,10 +15,10 @@ use Rattle.blocks.proofs.inner.ohm.ohm_rows.Tie as tie
 use Rattle.numbering.specs.Laid.{netOf}
 
 abbrev Inv-loop : tie.InvT-loop
-Inv-loop rows₀ cols₀ vals₀ at l bytes flow next₀ e₀ rows cols vals next e = (e ≤ l .m) × Wrote (each e (λ e. plainRow (netOf l bytes) (flowName flow e))) (out rows₀ cols₀ vals₀ at) (out rows cols vals next)
+Inv-loop rows₀ cols₀ vals₀ at l bytes q next₀ e₀ rows cols vals next e = (e ≤ l .m) × Wrote (each e (λ e. plainRow (netOf l bytes) (ohmRow (rowKind q) e))) (out rows₀ cols₀ vals₀ at) (out rows cols vals next)
 
 abbrev μ-loop : tie.MeasureT-loop
-μ-loop rows₀ cols₀ vals₀ at l bytes flow next₀ e₀ rows cols vals next e = l .m - e
+μ-loop rows₀ cols₀ vals₀ at l bytes q next₀ e₀ rows cols vals next e = l .m - e
 
 ohm-row-requires : tie.Need-ohm-row-requires Inv-loop μ-loop
 ohm-row-requires c κs = (c .before .before .before .before .before .before .before .before .before .before .pre .0, (c .before .before .before .if1 .taken, room-turn _ _ _ (c .before .before .before .before .before .loop .inv .1) (c .before .before .before .if1 .taken) (c .before .before .before .before .before .before .before .before .before .before .pre .1)))
