@@ -1,8 +1,8 @@
--- `operands::inner::selector::selected_if` meets its contract. Assumes nothing.
+-- `interface::inner::selected_if` meets its contract. Assumes nothing.
 use borrow.Author.Needs.{needs}
-use Rattle.operands.specs.Selector.{selectedIf}
-use Rattle.operands.proofs.inner.selector.selected_if.Statement.{statement}
-use Rattle.operands.proofs.inner.selector.selected_if.Tie as tie
+use Rattle.interface.specs.Selectors.{selectedIf}
+use Rattle.interface.proofs.inner.selected_if.Statement.{statement}
+use Rattle.interface.proofs.inner.selected_if.Tie as tie
 
 pub selected-if-spec : {M : Type 1} → statement M
 unfolding selectedIf
