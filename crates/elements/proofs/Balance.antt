@@ -8,8 +8,8 @@ use Rattle.numbering.specs.declared.SocWrLayout.{SocWrLayout}
 use Rattle.interface.specs.declared.Power.{Power}
 use Rattle.interface.specs.declared.Power.the-variants.{Active, Reactive}
 use Rattle.records.specs.Network.{networkOf}
-use Rattle.elements.specs.Balance.{balanceRow}
+use Rattle.elements.specs.Balance.{priceRow}
 
-pub balance-number : (l : SocWrLayout) (b : List ℕ) (power : Power) (i : ℕ) → layoutRow l (balanceRow power i) ≡ rowNumber (networkOf (l .n) (l .m) (l .k) (l .s) b) (balanceRow power i)
+pub balance-number : (l : SocWrLayout) (b : List ℕ) (power : Power) (i : ℕ) → layoutRow l (priceRow power i) ≡ rowNumber (networkOf (l .n) (l .m) (l .k) (l .s) b) (priceRow power i)
 balance-number l b Active i = refl
 balance-number l b Reactive i = refl
