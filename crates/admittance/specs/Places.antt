@@ -37,24 +37,24 @@ pub record ColumnsAre (l : SocWrLayout) (from to e : ℕ) (c : OhmColumns) : Typ
   pub wr : c .wr ≡ layoutColumn l (Wr e)
   pub wi : c .wi ≡ layoutColumn l (Wi e)
 
-abbrev pub rowIn : OhmRows → OhmRow → ℕ
-rowIn rs pf = rs .pf
-rowIn rs qf = rs .qf
-rowIn rs pt = rs .pt
-rowIn rs qt = rs .qt
+abbrev pub ohmRowAt : OhmRows → OhmRow → ℕ
+ohmRowAt rs pf = rs .pf
+ohmRowAt rs qf = rs .qf
+ohmRowAt rs pt = rs .pt
+ohmRowAt rs qt = rs .qt
 
 -- no entry is at the flow's column
-abbrev pub columnIn : OhmColumns → OhmRow → OhmPlace → ℕ
-columnIn cs pf w = cs .from
-columnIn cs qf w = cs .from
-columnIn cs pt w = cs .to
-columnIn cs qt w = cs .to
-columnIn cs r wr = cs .wr
-columnIn cs r wi = cs .wi
-columnIn cs r flow = 0
+abbrev pub ohmColumnAt : OhmColumns → OhmRow → OhmPlace → ℕ
+ohmColumnAt cs pf w = cs .from
+ohmColumnAt cs qf w = cs .from
+ohmColumnAt cs pt w = cs .to
+ohmColumnAt cs qt w = cs .to
+ohmColumnAt cs r wr = cs .wr
+ohmColumnAt cs r wi = cs .wi
+ohmColumnAt cs r flow = 0
 
 abbrev pub entryAt : OhmRows → OhmColumns → Series → Slope Float → Entry
-entryAt rs cs t d = record { 0 = rowIn rs (d .row); 1 = columnIn cs (d .row) (d .place); 2 = value64 (t .tm2) (d .value) }
+entryAt rs cs t d = record { 0 = ohmRowAt rs (d .row); 1 = ohmColumnAt cs (d .row) (d .place); 2 = value64 (t .tm2) (d .value) }
 
 unfoldable pub seriesEntries : OhmRows → OhmColumns → Series → GB → List Entry
 seriesEntries rs cs t gb = map (entryAt rs cs t) (series rounded (t .tr) (t .ti) gb)

@@ -44,9 +44,9 @@ endConstant Gen = one
 endConstant From = minusOne
 endConstant To = minusOne
 
-abbrev pub balanceRow : Bool → ℕ → RowName
-balanceRow false i = Pbal i
-balanceRow true i = Qbal i
+abbrev pub busRow : Bool → ℕ → RowName
+busRow false i = Pbal i
+busRow true i = Qbal i
 
 -- the coefficient of w
 abbrev pub selfValue : AcNetwork Float → Bool → ℕ → Float

@@ -11,10 +11,10 @@ use Rattle.numbering.specs.declared.RowName.{RowName}
 use Rattle.numbering.specs.declared.RowName.the-variants as RowName
 use Rattle.rows.specs.Program.{thermalFrom, thermalTo}
 use Rattle.complementarity.specs.Writes.{coneIn}
-use Rattle.blocks.specs.declared.Bound.{Bound}
-use Rattle.blocks.specs.declared.Bound.the-variants.{Wub, Wlb, Pgub, Pglb, Qgub, Qglb, Angub, Anglb}
+use Rattle.blocks.specs.declared.BoundKind.{BoundKind}
+use Rattle.blocks.specs.declared.BoundKind.the-variants.{Wub, Wlb, Pgub, Pglb, Qgub, Qglb, Angub, Anglb}
 
-abbrev pub boundName : Bound → ℕ → RowName
+abbrev pub boundName : BoundKind → ℕ → RowName
 boundName Wub i = RowName.Wub i
 boundName Wlb i = RowName.Wlb i
 boundName Pgub i = RowName.Pgub i
@@ -25,7 +25,7 @@ boundName Angub i = RowName.Angub i
 boundName Anglb i = RowName.Anglb i
 
 -- how many rows there are of the kind
-abbrev pub boundCount : SocWrLayout → Bound → ℕ
+abbrev pub boundCount : SocWrLayout → BoundKind → ℕ
 boundCount l Wub = l .n
 boundCount l Wlb = l .n
 boundCount l Pgub = l .k

@@ -2,7 +2,7 @@
 pub mod inner;
 
 // The kinds of rows that bound one thing each: a voltage, a dispatch, an angle.
-pub enum Bound {
+pub enum BoundKind {
     Wub,
     Wlb,
     Pgub,

@@ -16,7 +16,7 @@ use Rattle.interface.specs.declared.Power.{Power}
 use Rattle.interface.specs.declared.Bound.{Bound}
 use Rattle.interface.specs.declared.CostTerm.{CostTerm}
 use Rattle.interface.specs.declared.Parameter.the-variants.{Demand, Cost, VoltageBound, GenBound}
-use Rattle.elements.specs.Balance.{balanceRow}
+use Rattle.elements.specs.Balance.{priceRow}
 use Rattle.elements.proofs.Balance.{balance-number}
 use Rattle.admittance.specs.Stores.{put}
 use Rattle.admittance.specs.Places.{kktIn}
@@ -25,9 +25,9 @@ use Rattle.columns.specs.Jacobian.{voltageRow, genRow, dbdp, costSlope, 
 use Rattle.columns.proofs.Numbers.{voltage-number, gen-number}
 
 module _ (l : SocWrLayout) (b : List ℕ) (h : Laid l b) (x z : List Float) where
-  pub demand-same : (power : Power) (i : ℕ) → put (kktIn l (balanceRow power i)) (constant64 minusOne) ∷ [] ≡ stores (netOf l b) x z (Demand power) i
+  pub demand-same : (power : Power) (i : ℕ) → put (kktIn l (priceRow power i)) (constant64 minusOne) ∷ [] ≡ stores (netOf l b) x z (Demand power) i
   unfolding stores
-  demand-same power i = ap (λ (at : ℕ). put at (constant64 minusOne) ∷ []) (kkt-number l b h (balanceRow power i) (balance-number l b power i))
+  demand-same power i = ap (λ (at : ℕ). put at (constant64 minusOne) ∷ []) (kkt-number l b h (priceRow power i) (balance-number l b power i))
 
   bound-same : (r : RowName) (v : Float) → layoutRow l r ≡ rowNumber (netOf l b) r
       → put (kktIn l r) (mul binary64 (getD z (layoutRow l r) nan) v) ∷ [] ≡ put (kktRow (netOf l b) r) (mul binary64 (getD z (rowNumber (netOf l b) r) nan) v) ∷ []

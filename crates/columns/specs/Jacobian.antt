@@ -29,7 +29,7 @@ use Rattle.interface.specs.declared.Parameter.{Parameter}
 use Rattle.interface.specs.declared.Parameter.the-variants.{Demand, Cost, LineLimit, SeriesAdmittance, ShuntAdmittance, VoltageBound, GenBound, Transformer, Switching, ConstraintLimit}
 use Rattle.solution.specs.Lengths.{solutionCause}
 use Rattle.elements.specs.Lengths.{hasParameter, parameterLen, asksCost}
-use Rattle.elements.specs.Balance.{balanceRow}
+use Rattle.elements.specs.Balance.{priceRow}
 use Rattle.admittance.specs.Stores.{Store, put, storedAll}
 use Rattle.admittance.specs.Admittance.{xAt, zAt, shuntStores, seriesStores}
 
@@ -69,7 +69,7 @@ module _ (G : AcNetwork Float) where
     bounded r dbdp = put (kktRow G r) (mul binary64 (zAt G z r) dbdp) ∷ []
 
     unfoldable pub stores : Parameter → ℕ → List Store
-    stores (Demand power) i = put (kktRow G (balanceRow power i)) (constant64 minusOne) ∷ []
+    stores (Demand power) i = put (kktRow G (priceRow power i)) (constant64 minusOne) ∷ []
     stores LineLimit e = limitStores z e
     stores (VoltageBound bound) i = bounded (voltageRow bound i) (dbdp bound)
     stores (GenBound power bound) g = bounded (genRow power bound g) (dbdp bound)

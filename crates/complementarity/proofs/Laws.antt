@@ -23,7 +23,7 @@ use Rattle.lines.proofs.Sizes.{nvar-is, small}
 use Rattle.lines.specs.declared.Line.{Line}
 use Rattle.lines.specs.declared.Cone.{Cone}
 use Rattle.complementarity.specs.declared.Quad.{Quad}
-use Rattle.complementarity.specs.Writes.{Given, boundLine, lineIn, part, dualsOf, slacksOf, byX, byZ, coneRowOf, coneOf, plainCone, coneLines, dual, rowIn, coneIn}
+use Rattle.complementarity.specs.Writes.{Given, boundLine, lineIn, part, dualsOf, slacksOf, byX, byZ, coneRowOf, coneOf, plainCone, coneLines, dual, rowEntries, coneIn}
 
 -- the sum of entries at x, on top of a
 unfoldable dot : List Float → Float → List Entry → Float
@@ -69,8 +69,8 @@ module _ {G : AcNetwork Float} where
   slack-line {r} {l} h x =
       ap₂ (sub binary64) (sym (h .rhs)) (sum-dot G x (neg zero64) (terms G r) ∙ ap (dot x (neg zero64)) (h .entries 0 (λ a. a)) ∙ line-dot x l)
 
-  pub line-in : {r : RowName} {l : Line} → Stands G r l → (x z : List Float) (d : Bool) → lineIn (nvar G) x z d l ≡ rowIn G x z d r
-  unfolding lineIn rowIn boundLine
+  pub line-in : {r : RowName} {l : Line} → Stands G r l → (x z : List Float) (d : Bool) → lineIn (nvar G) x z d l ≡ rowEntries G x z d r
+  unfolding lineIn rowEntries boundLine
   line-in {r} {l} h x z true =
       ap (λ (k : ℕ). lineAt (nvar G + k) (mul binary64 (neg (getD z k nan))) l ++ (entry (nvar G + k) (nvar G + k) (lineSlack x l) ∷ [])) (h .number)
       ∙ ap₂ (λ (es : List Entry) (s : Float). es ++ (entry (kktRow G r) (kktRow G r) s ∷ [])) (sym (h .entries (kktRow G r) (mul binary64 (neg (dual G z r))))) (sym (slack-line h x))
@@ -131,7 +131,7 @@ module _ {l : SocWrLayout} {bytes : List ℕ} {x z : List Float} {v : ℕ} (g : 
   inside : {line : Line} → Within (nvar (netOf l bytes)) (ncon (netOf l bytes)) line → Within (length x) (length z) line
   inside w = record { row = omega (arith, w .row, g .z-length); first = omega (arith, w .first, g .x-length); second = omega (arith, w .second, g .x-length) }
 
-  pub ready : {r : RowName} {line : Line} → Stands (netOf l bytes) r line → Ready v x z d line (rowIn (netOf l bytes) x z d r)
+  pub ready : {r : RowName} {line : Line} → Stands (netOf l bytes) r line → Ready v x z d line (rowEntries (netOf l bytes) x z d r)
   ready s = record { within = inside (s .within); small = fits; same = rw (nvar-is (g .laid) e) (line-in s x z d) }
 
   pub cone-ready : {n : ℕ} {r : ℕ → RowName} {c : Cone} → ConeStands (netOf l bytes) n r c → ConeReady v x z d c n (coneIn (netOf l bytes) x z d n r)

@@ -82,8 +82,8 @@ abbrev pub dual : AcNetwork Float → List Float → RowName → Float
 dual G z r = getD z (rowNumber G r) nan
 
 -- a row as it is, or where the test holds as one of the nonnegative cone
-unfoldable pub rowIn : AcNetwork Float → List Float → List Float → Bool → RowName → List Entry
-rowIn G x z d r = cond d (boundRow G (slack G x) (dual G z) r) (plainRow G r)
+unfoldable pub rowEntries : AcNetwork Float → List Float → List Float → Bool → RowName → List Entry
+rowEntries G x z d r = cond d (boundRow G (slack G x) (dual G z) r) (plainRow G r)
 
 -- the rows r 0, .., r (n - 1) as they are, or where the test holds as a second-order cone
 unfoldable pub coneIn : AcNetwork Float → List Float → List Float → Bool → ℕ → (ℕ → RowName) → List Entry

@@ -10,8 +10,8 @@ use Rattle.numbering.specs.declared.RowName.the-variants.{Pbal, Qbal}
 use Rattle.numbering.proofs.Numbers.{layout-row, row-number}
 use Rattle.interface.specs.declared.Power.{Power}
 use Rattle.interface.specs.declared.Power.the-variants.{Active, Reactive}
-use Rattle.elements.specs.Balance.{balanceRow}
+use Rattle.elements.specs.Balance.{priceRow}
 
-pub balance-number : (l : SocWrLayout) (b : List ℕ) (power : Power) (i : ℕ) → layoutRow l (balanceRow power i) ≡ rowNumber (netOf l b) (balanceRow power i)
+pub balance-number : (l : SocWrLayout) (b : List ℕ) (power : Power) (i : ℕ) → layoutRow l (priceRow power i) ≡ rowNumber (netOf l b) (priceRow power i)
 balance-number l b Active i = layout-row l (Pbal i) ∙ sym (row-number (netOf l b) (Pbal i))
 balance-number l b Reactive i = layout-row l (Qbal i) ∙ sym (row-number (netOf l b) (Qbal i))

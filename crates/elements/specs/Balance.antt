@@ -5,6 +5,6 @@ use Rattle.numbering.specs.declared.RowName.the-variants.{Pbal, Qbal}
 use Rattle.interface.specs.declared.Power.{Power}
 use Rattle.interface.specs.declared.Power.the-variants.{Active, Reactive}
 
-abbrev pub balanceRow : Power → ℕ → RowName
-balanceRow Active i = Pbal i
-balanceRow Reactive i = Qbal i
+abbrev pub priceRow : Power → ℕ → RowName
+priceRow Active i = Pbal i
+priceRow Reactive i = Qbal i

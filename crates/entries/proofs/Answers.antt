@@ -30,7 +30,7 @@ use Rattle.solution.specs.Lengths.{solutionCause}
 use Rattle.solution.proofs.Lengths.{both-long}
 use Rattle.rows.specs.Program.{inequalities}
 use Rattle.numbering.specs.declared.RowName.the-variants.{Wub}
-use Rattle.complementarity.specs.Writes.{Given, rowIn}
+use Rattle.complementarity.specs.Writes.{Given, rowEntries}
 use Rattle.entries.specs.Answer.{roomCause, Answered}
 
 module _ {l : SocWrLayout} {bytes : List ℕ} where
@@ -45,13 +45,13 @@ module _ {l : SocWrLayout} {bytes : List ℕ} where
       (omega (arith, kkt-places (netOf l bytes) (sound (l .n) (l .m) (l .k) (l .s) bytes (h .accepted)) x z .bound, limits-are l bytes h), omega arith)
 
 -- the rows of the nonnegative cone are at least as many entries as buses
-pub covers : (G : AcNetwork Float) (x z : List Float) → G .n ≤ length (inequalities G (rowIn G x z true))
-unfolding rowIn
+pub covers : (G : AcNetwork Float) (x z : List Float) → G .n ≤ length (inequalities G (rowEntries G x z true))
+unfolding rowEntries
 covers G x z =
     simp length-append
-    (omega (arith, each-length (G .n) (λ i. rowIn G x z true (Wub i)), sum-ones (G .n), sum-le (G .n) (λ i. 1) (λ i. length (rowIn G x z true (Wub i))) (λ i d. one-at-least i)))
+    (omega (arith, each-length (G .n) (λ i. rowEntries G x z true (Wub i)), sum-ones (G .n), sum-le (G .n) (λ i. 1) (λ i. length (rowEntries G x z true (Wub i))) (λ i d. one-at-least i)))
   where
-    one-at-least : (i : ℕ) → 1 ≤ length (rowIn G x z true (Wub i))
+    one-at-least : (i : ℕ) → 1 ≤ length (rowEntries G x z true (Wub i))
     one-at-least i = rw length-append (omega arith)
 
 pub rooms : (need : ℕ) (rs cs : List ℕ) (vs : List Float) → roomCause need rs cs vs ≡ Accepted → (need ≤ length rs) × (need ≤ length cs) × (need ≤ length vs)

@@ -5,7 +5,7 @@ use native.Mathlib.Omega.{arith}
 use lib.ListN.{length, length-append}
 use lib.Ieee.{Float}
 use Rattle.lists.specs.Entries.{Entry}
-use Rattle.dealing.specs.Fill.{Ahead}
+use Rattle.dealing.specs.Fill.{FilledAhead}
 use Rattle.dealing.proofs.Fills.{ahead-pos}
 
 -- the same with n places ahead
@@ -13,7 +13,7 @@ pub room-before : (at n b : ℕ) (xs ys : List Entry) → at + length (xs ++ ys)
 room-before at n b xs ys h = omega (arith, length-append xs ys)
 
 pub room-after : {n : ℕ} {xs : List Entry} {rs rs₀ cs cs₀ : List ℕ} {vs vs₀ : List Float} {at at₀ b : ℕ} (ys : List Entry)
-    → Ahead n xs rs₀ cs₀ vs₀ at₀ rs cs vs at → at₀ + length (xs ++ ys) + n < b → at + length ys + n < b
+    → FilledAhead n xs rs₀ cs₀ vs₀ at₀ rs cs vs at → at₀ + length (xs ++ ys) + n < b → at + length ys + n < b
 room-after {xs = xs} ys e h = omega (arith, ahead-pos e, length-append xs ys)
 
 -- without them, in 64 bits

@@ -1,6 +1,6 @@
 // The parts of the list, each after the other.
 use balance::inner::sorted::balance_rows;
-use blocks::Bound;
+use blocks::BoundKind;
 use blocks::inner::bounds::bound_rows;
 use blocks::inner::cones::jabr_rows;
 use blocks::inner::cones::thermal_rows;
@@ -17,8 +17,8 @@ ghost use mathlib.Core.List.{map};
 ghost use Rattle.lists.specs.Entries.{turned};
 ghost use Rattle.rows.specs.Program.{equalities, inequalities, secondOrder, everyRow};
 ghost use Rattle.kkt.specs.Kkt.{plainRow, kkt};
-ghost use Rattle.dealing.specs.Fill.{Ahead, Finished};
-ghost use Rattle.complementarity.specs.Writes.{Given, rowIn, coneIn};
+ghost use Rattle.dealing.specs.Fill.{FilledAhead, Finished};
+ghost use Rattle.complementarity.specs.Writes.{Given, rowEntries, coneIn};
 ghost use Rattle.entries.specs.Parts.{firstBounds, stationarity};
 ghost use Rattle.numbering.specs.Laid.{netOf, Laid};
 
@@ -33,7 +33,7 @@ fn equality_rows(
 ) -> usize
     requires { ⌜ Laid l (now bytes) ⌝ }
     requires { ⌜ at + length (equalities (netOf l (now bytes)) (plainRow (netOf l (now bytes)))) + l .n < 2 ^ 31 ⌝ }
-    ensures { λ next. ⌜ Ahead (l .n) (equalities (netOf l (now (bytes .entry))) (plainRow (netOf l (now (bytes .entry))))) (now (rows .entry)) (now (cols .entry)) (now (vals .entry)) at (now (rows .exit)) (now (cols .exit)) (now (vals .exit)) next ⌝ }
+    ensures { λ next. ⌜ FilledAhead (l .n) (equalities (netOf l (now (bytes .entry))) (plainRow (netOf l (now (bytes .entry))))) (now (rows .entry)) (now (cols .entry)) (now (vals .entry)) at (now (rows .exit)) (now (cols .exit)) (now (vals .exit)) next ⌝ }
 {
     let n1 = balance_rows(rows, cols, vals, at, l, bytes, false);
     let n2 = balance_rows(rows, cols, vals, n1, l, bytes, true);
@@ -55,13 +55,13 @@ fn first_bounds(
     d: bool,
 ) -> usize
     requires { ⌜ Given l (now bytes) (now x) (now z) ⌝ }
-    requires { ⌜ at + length (firstBounds (netOf l (now bytes)) (rowIn (netOf l (now bytes)) (now x) (now z) d)) < 2 ^ 64 ⌝ }
-    ensures { λ next. ⌜ Wrote (firstBounds (netOf l (now (bytes .entry))) (rowIn (netOf l (now (bytes .entry))) (now (x .entry)) (now (z .entry)) d)) (out (now (rows .entry)) (now (cols .entry)) (now (vals .entry)) at) (out (now (rows .exit)) (now (cols .exit)) (now (vals .exit)) next) ⌝ }
+    requires { ⌜ at + length (firstBounds (netOf l (now bytes)) (rowEntries (netOf l (now bytes)) (now x) (now z) d)) < 2 ^ 64 ⌝ }
+    ensures { λ next. ⌜ Wrote (firstBounds (netOf l (now (bytes .entry))) (rowEntries (netOf l (now (bytes .entry))) (now (x .entry)) (now (z .entry)) d)) (out (now (rows .entry)) (now (cols .entry)) (now (vals .entry)) at) (out (now (rows .exit)) (now (cols .exit)) (now (vals .exit)) next) ⌝ }
 {
-    let n1 = bound_rows(rows, cols, vals, at, l, bytes, x, z, d, Bound::Wub);
-    let n2 = bound_rows(rows, cols, vals, n1, l, bytes, x, z, d, Bound::Wlb);
-    let n3 = bound_rows(rows, cols, vals, n2, l, bytes, x, z, d, Bound::Pgub);
-    bound_rows(rows, cols, vals, n3, l, bytes, x, z, d, Bound::Pglb)
+    let n1 = bound_rows(rows, cols, vals, at, l, bytes, x, z, d, BoundKind::Wub);
+    let n2 = bound_rows(rows, cols, vals, n1, l, bytes, x, z, d, BoundKind::Wlb);
+    let n3 = bound_rows(rows, cols, vals, n2, l, bytes, x, z, d, BoundKind::Pgub);
+    bound_rows(rows, cols, vals, n3, l, bytes, x, z, d, BoundKind::Pglb)
 }
 
 // The rows of the nonnegative cone, or the same rows as they are.
@@ -77,14 +77,14 @@ fn inequality_rows(
     d: bool,
 ) -> usize
     requires { ⌜ Given l (now bytes) (now x) (now z) ⌝ }
-    requires { ⌜ at + length (inequalities (netOf l (now bytes)) (rowIn (netOf l (now bytes)) (now x) (now z) d)) < 2 ^ 64 ⌝ }
-    ensures { λ next. ⌜ Wrote (inequalities (netOf l (now (bytes .entry))) (rowIn (netOf l (now (bytes .entry))) (now (x .entry)) (now (z .entry)) d)) (out (now (rows .entry)) (now (cols .entry)) (now (vals .entry)) at) (out (now (rows .exit)) (now (cols .exit)) (now (vals .exit)) next) ⌝ }
+    requires { ⌜ at + length (inequalities (netOf l (now bytes)) (rowEntries (netOf l (now bytes)) (now x) (now z) d)) < 2 ^ 64 ⌝ }
+    ensures { λ next. ⌜ Wrote (inequalities (netOf l (now (bytes .entry))) (rowEntries (netOf l (now (bytes .entry))) (now (x .entry)) (now (z .entry)) d)) (out (now (rows .entry)) (now (cols .entry)) (now (vals .entry)) at) (out (now (rows .exit)) (now (cols .exit)) (now (vals .exit)) next) ⌝ }
 {
     let n1 = first_bounds(rows, cols, vals, at, l, bytes, x, z, d);
-    let n2 = bound_rows(rows, cols, vals, n1, l, bytes, x, z, d, Bound::Qgub);
-    let n3 = bound_rows(rows, cols, vals, n2, l, bytes, x, z, d, Bound::Qglb);
-    let n4 = bound_rows(rows, cols, vals, n3, l, bytes, x, z, d, Bound::Angub);
-    let n5 = bound_rows(rows, cols, vals, n4, l, bytes, x, z, d, Bound::Anglb);
+    let n2 = bound_rows(rows, cols, vals, n1, l, bytes, x, z, d, BoundKind::Qgub);
+    let n3 = bound_rows(rows, cols, vals, n2, l, bytes, x, z, d, BoundKind::Qglb);
+    let n4 = bound_rows(rows, cols, vals, n3, l, bytes, x, z, d, BoundKind::Angub);
+    let n5 = bound_rows(rows, cols, vals, n4, l, bytes, x, z, d, BoundKind::Anglb);
     segment_rows(rows, cols, vals, n5, l, bytes, x, z, d)
 }
 
@@ -121,7 +121,7 @@ fn program_rows(
 ) -> usize
     requires { ⌜ Given l (now bytes) (now x) (now z) ⌝ }
     requires { ⌜ at + length (everyRow (netOf l (now bytes)) (plainRow (netOf l (now bytes)))) + l .n < 2 ^ 31 ⌝ }
-    ensures { λ next. ⌜ Ahead (l .n) (everyRow (netOf l (now (bytes .entry))) (plainRow (netOf l (now (bytes .entry))))) (now (rows .entry)) (now (cols .entry)) (now (vals .entry)) at (now (rows .exit)) (now (cols .exit)) (now (vals .exit)) next ⌝ }
+    ensures { λ next. ⌜ FilledAhead (l .n) (everyRow (netOf l (now (bytes .entry))) (plainRow (netOf l (now (bytes .entry))))) (now (rows .entry)) (now (cols .entry)) (now (vals .entry)) at (now (rows .exit)) (now (cols .exit)) (now (vals .exit)) next ⌝ }
 {
     let n1 = equality_rows(rows, cols, vals, at, l, bytes);
     let n2 = inequality_rows(rows, cols, vals, n1, l, bytes, x, z, false);
@@ -141,7 +141,7 @@ fn turned_rows(
 ) -> usize
     requires { ⌜ Given l (now bytes) (now x) (now z) ⌝ }
     requires { ⌜ at + length (map turned (everyRow (netOf l (now bytes)) (plainRow (netOf l (now bytes))))) + l .n < 2 ^ 31 ⌝ }
-    ensures { λ next. ⌜ Ahead (l .n) (map turned (everyRow (netOf l (now (bytes .entry))) (plainRow (netOf l (now (bytes .entry)))))) (now (rows .entry)) (now (cols .entry)) (now (vals .entry)) at (now (rows .exit)) (now (cols .exit)) (now (vals .exit)) next ⌝ }
+    ensures { λ next. ⌜ FilledAhead (l .n) (map turned (everyRow (netOf l (now (bytes .entry))) (plainRow (netOf l (now (bytes .entry)))))) (now (rows .entry)) (now (cols .entry)) (now (vals .entry)) at (now (rows .exit)) (now (cols .exit)) (now (vals .exit)) next ⌝ }
 {
     program_rows(cols, rows, vals, at, l, bytes, x, z)
 }
@@ -159,7 +159,7 @@ fn first_part(
 ) -> usize
     requires { ⌜ Given l (now bytes) (now x) (now z) ⌝ }
     requires { ⌜ at + length (stationarity (netOf l (now bytes))) + l .n < 2 ^ 31 ⌝ }
-    ensures { λ next. ⌜ Ahead (l .n) (stationarity (netOf l (now (bytes .entry)))) (now (rows .entry)) (now (cols .entry)) (now (vals .entry)) at (now (rows .exit)) (now (cols .exit)) (now (vals .exit)) next ⌝ }
+    ensures { λ next. ⌜ FilledAhead (l .n) (stationarity (netOf l (now (bytes .entry)))) (now (rows .entry)) (now (cols .entry)) (now (vals .entry)) at (now (rows .exit)) (now (cols .exit)) (now (vals .exit)) next ⌝ }
 {
     let n1 = put_quadratic(rows, cols, vals, at, l, bytes);
     let n2 = turned_rows(rows, cols, vals, n1, l, bytes, x, z);

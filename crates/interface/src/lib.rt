@@ -1,6 +1,7 @@
 // The vocabulary of a sensitivity: what it is taken of, what it is taken by, and how it is solved.
 mod axes;
 mod codes;
+pub mod inner;
 mod scale;
 mod selector;
 
@@ -12,6 +13,7 @@ pub use codes::axis_at;
 pub use codes::mode_at;
 pub use codes::operand_at;
 pub use codes::parameter_at;
+use refusals::Refusal;
 pub use scale::served_unit_scale;
 pub use selector::selector_new;
 
@@ -95,4 +97,10 @@ pub enum Mode {
     Forward,
     Adjoint,
     Auto,
+}
+
+// A selector's answer, its lists being lent: how many items it has, and the sign of what is read.
+pub enum Selected {
+    Items { count: u64, sign: f64 },
+    Refused(Refusal),
 }

@@ -1,1 +1,2 @@
 pub mod Sized
+pub mod Order

@@ -18,9 +18,9 @@ use Rattle.interface.specs.declared.codes.OperandCode.{OperandCode}
 use Rattle.interface.specs.declared.codes.OperandCode.the-variants as OperandCode
 use Rattle.interface.specs.declared.codes.AxisCode.{AxisCode}
 use Rattle.interface.specs.declared.codes.AxisCode.the-variants as AxisCode
-use Rattle.operands.specs.Selector.{selectedNumber, selectedValue, selectedSign}
+use Rattle.interface.specs.Selectors.{selectedNumber, selectedValue, selectedSign}
 use Rattle.elements.specs.Ids.{elementId, idCheck, idIf, idNumber, idValue}
-use Rattle.operands.specs.declared.Selected.{Selected}
+use Rattle.interface.specs.declared.Selected.{Selected}
 use Rattle.elements.specs.declared.ElementId.{ElementId}
 use Rattle.elements.specs.declared.ElementId.the-variants.{Constraint}
 use Rattle.elements.specs.declared.IdAnswer.{IdAnswer}

@@ -2,6 +2,7 @@
 use crate::Answer;
 use crate::Scalar;
 use crate::scalar_answer;
+use crate::sens::items_answer;
 use crate::written_answer;
 use interface::ModeCode;
 use interface::Operand;
@@ -64,6 +65,7 @@ pub extern "C" fn socwr_unit_scale(operand: u64, parameter: u64, base: f64) -> S
     scalar_answer(scale_at(o, p, base))
 }
 
+// The caller gives the sign where it combines, so that here any will do.
 #[no_mangle]
 pub extern "C" fn socwr_selector_new(
     from_rows: &[u32],
@@ -79,8 +81,16 @@ pub extern "C" fn socwr_selector_new(
     ensures { λ _. ⌜ now (weights .exit) ≡ leftIn (selectorCheck (now («from_rows» .entry)) (now («from_elements» .entry)) (now (starts .entry)) (now (rows .entry)) (now (weights .entry)) (now (elements .entry))) (unitWeights (length (now («from_rows» .entry)))) (now (weights .entry)) ⌝ }
     ensures { λ _. ⌜ now (elements .exit) ≡ leftIn (selectorCheck (now («from_rows» .entry)) (now («from_elements» .entry)) (now (starts .entry)) (now (rows .entry)) (now (weights .entry)) (now (elements .entry))) (now («from_elements» .entry)) (now (elements .entry)) ⌝ }
 {
-    let w = interface::selector_new(from_rows, from_elements, starts, rows, weights, elements);
-    written_answer(w)
+    let a = interface::selector_new(
+        from_rows,
+        from_elements,
+        1.0,
+        starts,
+        rows,
+        weights,
+        elements,
+    );
+    items_answer(a)
 }
 
 #[no_mangle]

@@ -8,11 +8,11 @@ use interface::Operand;
 use interface::OperandCode;
 use interface::Parameter;
 use interface::ParameterCode;
+use interface::Selected;
 use interface::VoltageKind;
 use interface::axis_at;
 use interface::operand_at;
 use interface::parameter_at;
-use operands::Selected;
 use refusals::Refusal;
 use refusals::number_of;
 use refusals::or_else;
@@ -23,10 +23,10 @@ ghost use lib.ListN.{length};
 ghost use Rattle.refusals.specs.Refusals.{_orElse_, refuseUnless, writtenIf, leftIn};
 ghost use Rattle.records.specs.Network.{networkOf};
 ghost use Rattle.interface.specs.Codes.{parameterAt, operandAt, axisAt};
-ghost use Rattle.interface.specs.Selectors.{unitStarts, unitWeights};
+ghost use Rattle.interface.specs.Selectors.{unitStarts, unitWeights, selectedNumber, selectedValue, selectedSign, selectedIf};
 ghost use Rattle.elements.specs.Lengths.{parameterLen, operandLen, parameterLenCheck, operandLenCheck};
 ghost use Rattle.columns.specs.Jacobian.{dim, jacobian, jacobianCheck};
-ghost use Rattle.operands.specs.Selector.{selectedNumber, selectedValue, selectedSign, selectorCheck, selectorRows, selectorElements, selectorSign, selectedIf};
+ghost use Rattle.operands.specs.Selector.{selectorCheck, selectorRows, selectorElements, selectorSign};
 ghost use Rattle.elements.specs.Ids.{elementValue, idNumber, idValue, idIf};
 ghost use Rattle.records.specs.Check.{checkOf};
 ghost use Rattle.refusals.specs.declared.Refusal.the-variants.{PastEnd};
@@ -123,6 +123,16 @@ fn selected_sign(a: Selected) -> f64
     match a {
         Selected::Items { sign, .. } => sign,
         Selected::Refused(_) => 0.0,
+    }
+}
+
+// A selector's answer without its sign.
+pub(crate) fn items_answer(a: Selected) -> Answer
+    ensures { λ r. ⌜ (r .number ≡ selectedNumber a) × (r .value ≡ selectedValue a) ⌝ }
+{
+    Answer {
+        number: selected_number(a),
+        value: selected_value(a),
     }
 }
 

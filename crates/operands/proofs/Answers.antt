@@ -1,20 +1,15 @@
--- Answers of a check that passed or refused, and the selectors' lists. Assumes nothing.
-use Prim.Native.Nat.{ℕ, _+_, _≤_, _<_}
-use mathlib.Core.Path.{_≡_, refl, sym, ap, _∙_, subst}
-use mathlib.Core.Bool.{Bool, true, false}
+-- What an accepted operand has, and the selectors' lists. Assumes nothing.
+use Prim.Native.Nat.{ℕ, _+_}
+use mathlib.Core.Path.{_≡_, sym, ap, subst}
+use mathlib.Core.Bool.{true}
 use mathlib.Core.List.{List, [], _∷_, _++_}
 use native.Mathlib.Omega.{arith}
-use native.Mathlib.Nat.{zero-add}
 use lib.Dec.{T}
-use lib.ListN.{length}
 use lib.Ieee.{Float}
 use Rattle.lists.specs.UpTo.{upTo, listed, overlay}
 use Rattle.lists.proofs.UpTo.{upTo-same}
-use Rattle.refusals.specs.Refusals.{_orElse_, isRefused, refuseUnless, leftIn}
-use Rattle.refusals.specs.declared.Checked.{Checked}
-use Rattle.refusals.specs.declared.Checked.the-variants.{Accepted, Refused}
-use Rattle.refusals.specs.declared.Refusal.the-variants.{NotInSocWr}
-use Rattle.refusals.proofs.Laws.{orElse-refused, orElse-accepted, test-held, has-room}
+use Rattle.refusals.specs.declared.Checked.the-variants.{Accepted}
+use Rattle.refusals.proofs.Laws.{orElse-accepted, test-held}
 use Rattle.records.specs.AcNetwork.{AcNetwork}
 use Rattle.interface.specs.declared.Power.the-variants.{Active, Reactive}
 use Rattle.interface.specs.declared.End.the-variants.{From, To}
@@ -23,42 +18,20 @@ use Rattle.interface.specs.declared.VoltageKind.the-variants.{Magnitude, Angle,
 use Rattle.interface.specs.declared.Operand.{Operand}
 use Rattle.interface.specs.declared.Operand.the-variants.{Price, Dispatch, Flow, Voltage}
 use Rattle.elements.specs.Lengths.{hasOperand, operandLen}
-use Rattle.operands.specs.Selector.{selectorRow, selectorRows, selectorElements, roomCause, operandCause, selectedIf}
-use Rattle.operands.specs.declared.Selected.{Selected}
-use Rattle.operands.specs.declared.Selected.the-variants.{Items}
-
-selected-none : (c : Checked) (i j : ℕ) (v w : Float) → isRefused c ≡ true → selectedIf c i v ≡ selectedIf c j w
-unfolding selectedIf isRefused
-selected-none Accepted i j v w h = absurd (subst T (sym h) tt)
-selected-none (Refused cause) i j v w h = refl
-
-pub selected-refused : {r : Selected} (c : Checked) (i j : ℕ) (v w : Float) → isRefused c ≡ true → r ≡ selectedIf c i v → r ≡ selectedIf c j w
-selected-refused c i j v w h e = e ∙ selected-none c i j v w h
-
-pub selected-first : {r : Selected} (c d : Checked) (i j : ℕ) (v w : Float) → isRefused c ≡ true → r ≡ selectedIf c i v → r ≡ selectedIf (c orElse d) j w
-selected-first c d i j v w h e = e ∙ selected-none c i j v w h ∙ ap (λ (x : Checked). selectedIf x j w) (sym (orElse-refused c d h))
-
-pub selected-passed : {c : Checked} (i : ℕ) (v : Float) → c ≡ Accepted → Items i v ≡ selectedIf c i v
-unfolding selectedIf
-selected-passed i v e = rw e
+use Rattle.interface.proofs.Selectors.{Room, roomy}
+use Rattle.operands.specs.Selector.{selectorRow, selectorRows, operandCause}
 
 -- ---- what an accepted operand has
 module _ (n m k : ℕ) (o : Operand) (starts rows weights elements : ℕ) where
   pub record Fitting : Type 0 where
     pub has : hasOperand o ≡ true
-    pub for-starts : operandLen n m k o + 1 ≤ starts
-    pub for-rows : operandLen n m k o ≤ rows
-    pub for-weights : operandLen n m k o ≤ weights
-    pub for-elements : operandLen n m k o ≤ elements
+    pub room : Room (operandLen n m k o) starts rows weights elements
 
   pub fitting : operandCause n m k o starts rows weights elements ≡ Accepted → Fitting
-  unfolding operandCause roomCause
+  unfolding operandCause
   fitting h =
       let a = orElse-accepted _ _ h in
-      let b = orElse-accepted _ _ (a .1) in
-      let c = orElse-accepted _ _ (b .1) in
-      let d = orElse-accepted _ _ (c .1) in
-      record { has = test-held _ _ (a .0); for-starts = has-room _ _ (b .0); for-rows = has-room _ _ (c .0); for-weights = has-room _ _ (d .0); for-elements = has-room _ _ (d .1) }
+      record { has = test-held _ _ (a .0); room = roomy _ _ _ _ _ (a .1) }
 
 -- ---- the items of an operand stand one after the other
 module _ (G : AcNetwork Float) where
@@ -84,6 +57,3 @@ module _ (G : AcNetwork Float) where
   pub rows-none : (o : Operand) (ys : List ℕ) → operandLen (G .n) (G .m) (G .k) o ≡ 0 → ys ≡ overlay (selectorRows G o) ys
   unfolding selectorRows overlay upTo
   rows-none o ys e = rw e
-
-pub from-zero : (n : ℕ) → listed n (λ j. 0 + j) ≡ listed n (λ j. j)
-from-zero n = upTo-same _++_ [] _ _ n (λ j l. ap (λ (x : ℕ). x ∷ []) (zero-add j))

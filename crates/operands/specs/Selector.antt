@@ -1,11 +1,10 @@
 -- `operand_selector` of sens/conic.rs: one row of [x, z] of weight 1.0 for each item, and the sign.
-use Prim.Native.Nat.{ℕ, _+_}
+use Prim.Native.Nat.{ℕ}
 use mathlib.Core.List.{List}
 use lib.Ieee.{Float}
 use Rattle.lists.specs.UpTo.{listed}
-use Rattle.refusals.specs.Refusals.{_orElse_, refuseUnless, roomFor, numberOf, valueOf}
+use Rattle.refusals.specs.Refusals.{_orElse_, refuseUnless}
 use Rattle.refusals.specs.declared.Checked.{Checked}
-use Rattle.refusals.specs.declared.Checked.the-variants.{Accepted, Refused}
 use Rattle.refusals.specs.declared.Refusal.the-variants.{NotInSocWr}
 use Rattle.records.specs.AcNetwork.{AcNetwork}
 use Rattle.records.specs.Network.{networkOf}
@@ -13,7 +12,7 @@ use Rattle.records.specs.Check.{checkOf}
 use Rattle.numbering.specs.Numbering.{columnNumber}
 use Rattle.numbering.specs.declared.ColumnName.{ColumnName}
 use Rattle.numbering.specs.declared.ColumnName.the-variants.{Pg, Qg, W, Wr, Wi, Pf, Pt, Qf, Qt}
-use Rattle.rows.specs.Rows.{zero64, constant64, one, minusOne}
+use Rattle.rows.specs.Rows.{constant64, one, minusOne}
 use Rattle.interface.specs.declared.Power.{Power}
 use Rattle.interface.specs.declared.Power.the-variants.{Active, Reactive}
 use Rattle.interface.specs.declared.End.{End}
@@ -22,11 +21,10 @@ use Rattle.interface.specs.declared.VoltageKind.{VoltageKind}
 use Rattle.interface.specs.declared.VoltageKind.the-variants.{Magnitude, Angle, Squared, ProductReal, ProductImag}
 use Rattle.interface.specs.declared.Operand.{Operand}
 use Rattle.interface.specs.declared.Operand.the-variants.{Price, Dispatch, Flow, Voltage}
+use Rattle.interface.specs.Selectors.{selectorRoom}
 use Rattle.elements.specs.Lengths.{hasOperand, operandLen}
-use Rattle.elements.specs.Balance.{balanceRow}
+use Rattle.elements.specs.Balance.{priceRow}
 use Rattle.kkt.specs.Kkt.{kktRow}
-use Rattle.operands.specs.declared.Selected.{Selected}
-use Rattle.operands.specs.declared.Selected.the-variants as Selected
 
 abbrev pub dispatchColumn : Power → ℕ → ColumnName
 dispatchColumn Active g = Pg g
@@ -49,7 +47,7 @@ module _ (G : AcNetwork Float) where
 
   -- the row of item j: a price's is its balance row's
   abbrev pub selectorRow : Operand → ℕ → ℕ
-  selectorRow (Price power) i = kktRow G (balanceRow power i)
+  selectorRow (Price power) i = kktRow G (priceRow power i)
   selectorRow (Dispatch power) g = columnNumber G (dispatchColumn power g)
   selectorRow (Flow power end) e = columnNumber G (flowOf power end e)
   selectorRow (Voltage kind) j = voltageAt kind j
@@ -69,30 +67,9 @@ selectorSign (Flow power end) = constant64 one
 selectorSign (Voltage kind) = constant64 one
 
 -- ---- 9, then 10 for the first of starts, rows, weights, elements that is too short
-unfoldable pub roomCause : (items starts rows weights elements : ℕ) → Checked
-roomCause items starts rows weights elements = roomFor (items + 1) starts orElse roomFor items rows orElse roomFor items weights orElse roomFor items elements
-
 unfoldable pub operandCause : (n m k : ℕ) → Operand → (starts rows weights elements : ℕ) → Checked
 operandCause n m k o starts rows weights elements =
-    refuseUnless (hasOperand o) NotInSocWr orElse roomCause (operandLen n m k o) starts rows weights elements
+    refuseUnless (hasOperand o) NotInSocWr orElse selectorRoom (operandLen n m k o) starts rows weights elements
 
 abbrev pub selectorCheck : (n m k s : ℕ) → List ℕ → Operand → (starts rows weights elements : ℕ) → Checked
 selectorCheck n m k s b o starts rows weights elements = checkOf n m k s b orElse operandCause n m k o starts rows weights elements
-
--- ---- the answer
-unfoldable pub selectedIf : Checked → ℕ → Float → Selected
-selectedIf Accepted count sign = Selected.Items count sign
-selectedIf (Refused cause) count sign = Selected.Refused cause
-
--- the number, the value and the sign of an answer: 0, the count and the sign, or the cause's and 0.0
-abbrev pub selectedNumber : Selected → ℕ
-selectedNumber (Selected.Items count sign) = 0
-selectedNumber (Selected.Refused cause) = numberOf cause
-
-abbrev pub selectedValue : Selected → ℕ
-selectedValue (Selected.Items count sign) = count
-selectedValue (Selected.Refused cause) = valueOf cause
-
-abbrev pub selectedSign : Selected → Float
-selectedSign (Selected.Items count sign) = sign
-selectedSign (Selected.Refused cause) = zero64

@@ -1,26 +1,20 @@
 // The selectors of operands.
-use inner::selector::selected_if;
 use inner::selector::selector_of;
 use interface::Operand;
+use interface::Selected;
+use interface::inner::selected_if;
 use numbering::inner::layout;
 use records::check_records;
-use refusals::Refusal;
 use refusals::is_refused;
 ghost use mathlib.Core.Path.{_≡_};
 ghost use lib.ListN.{length};
 ghost use Rattle.refusals.specs.Refusals.{leftIn};
 ghost use Rattle.records.specs.Network.{networkOf};
-ghost use Rattle.interface.specs.Selectors.{unitStarts, unitWeights};
+ghost use Rattle.interface.specs.Selectors.{unitStarts, unitWeights, selectedIf};
 ghost use Rattle.elements.specs.Lengths.{operandLen};
-ghost use Rattle.operands.specs.Selector.{selectorCheck, selectorRows, selectorElements, selectorSign, selectedIf};
+ghost use Rattle.operands.specs.Selector.{selectorCheck, selectorRows, selectorElements, selectorSign};
 
 mod inner;
-
-// How many items a selector has, and the sign of what is read.
-pub enum Selected {
-    Items { count: u64, sign: f64 },
-    Refused(Refusal),
-}
 
 // The rows that an operand reads, one of weight 1.0 for each item, and the sign.
 pub fn operand_selector(

@@ -1,5 +1,5 @@
 // The rows of the bounds.
-use crate::Bound;
+use crate::BoundKind;
 use complementarity::inner::single::put_row;
 use lines::Line;
 use lines::inner::angles::anglb;
@@ -17,39 +17,39 @@ ghost use lib.ListN.{length};
 ghost use Rattle.lists.specs.Out.{out, Wrote};
 ghost use Rattle.lists.specs.UpTo.{each};
 ghost use Rattle.lines.specs.Line.{Stands};
-ghost use Rattle.complementarity.specs.Writes.{Given, rowIn};
+ghost use Rattle.complementarity.specs.Writes.{Given, rowEntries};
 ghost use Rattle.blocks.specs.Kinds.{boundName, boundCount};
 ghost use Rattle.numbering.specs.Laid.{netOf, Laid};
 
-fn count_of(l: SocWrLayout, kind: Bound) -> usize
+fn count_of(l: SocWrLayout, kind: BoundKind) -> usize
     ensures { λ r. ⌜ r ≡ boundCount l kind ⌝ }
 {
     match kind {
-        Bound::Wub => l.n,
-        Bound::Wlb => l.n,
-        Bound::Pgub => l.k,
-        Bound::Pglb => l.k,
-        Bound::Qgub => l.k,
-        Bound::Qglb => l.k,
-        Bound::Angub => l.m,
-        Bound::Anglb => l.m,
+        BoundKind::Wub => l.n,
+        BoundKind::Wlb => l.n,
+        BoundKind::Pgub => l.k,
+        BoundKind::Pglb => l.k,
+        BoundKind::Qgub => l.k,
+        BoundKind::Qglb => l.k,
+        BoundKind::Angub => l.m,
+        BoundKind::Anglb => l.m,
     }
 }
 
-fn bound_line(l: SocWrLayout, bytes: &[u8], kind: Bound, i: usize) -> Line
+fn bound_line(l: SocWrLayout, bytes: &[u8], kind: BoundKind, i: usize) -> Line
     requires { ⌜ Laid l (now bytes) ⌝ }
     requires { ⌜ i < boundCount l kind ⌝ }
     ensures { λ r. ⌜ Stands (netOf l (now (bytes .entry))) (boundName kind i) r ⌝ }
 {
     match kind {
-        Bound::Wub => wub(l, bytes, i),
-        Bound::Wlb => wlb(l, bytes, i),
-        Bound::Pgub => pgub(l, bytes, i),
-        Bound::Pglb => pglb(l, bytes, i),
-        Bound::Qgub => qgub(l, bytes, i),
-        Bound::Qglb => qglb(l, bytes, i),
-        Bound::Angub => angub(l, bytes, i),
-        Bound::Anglb => anglb(l, bytes, i),
+        BoundKind::Wub => wub(l, bytes, i),
+        BoundKind::Wlb => wlb(l, bytes, i),
+        BoundKind::Pgub => pgub(l, bytes, i),
+        BoundKind::Pglb => pglb(l, bytes, i),
+        BoundKind::Qgub => qgub(l, bytes, i),
+        BoundKind::Qglb => qglb(l, bytes, i),
+        BoundKind::Angub => angub(l, bytes, i),
+        BoundKind::Anglb => anglb(l, bytes, i),
     }
 }
 
@@ -63,13 +63,13 @@ fn bound_row(
     x: &[f64],
     z: &[f64],
     d: bool,
-    kind: Bound,
+    kind: BoundKind,
     i: usize,
 ) -> usize
     requires { ⌜ Given l (now bytes) (now x) (now z) ⌝ }
     requires { ⌜ i < boundCount l kind ⌝ }
-    requires { ⌜ at + length (rowIn (netOf l (now bytes)) (now x) (now z) d (boundName kind i)) < 2 ^ 64 ⌝ }
-    ensures { λ next. ⌜ Wrote (rowIn (netOf l (now (bytes .entry))) (now (x .entry)) (now (z .entry)) d (boundName kind i)) (out (now (rows .entry)) (now (cols .entry)) (now (vals .entry)) at) (out (now (rows .exit)) (now (cols .exit)) (now (vals .exit)) next) ⌝ }
+    requires { ⌜ at + length (rowEntries (netOf l (now bytes)) (now x) (now z) d (boundName kind i)) < 2 ^ 64 ⌝ }
+    ensures { λ next. ⌜ Wrote (rowEntries (netOf l (now (bytes .entry))) (now (x .entry)) (now (z .entry)) d (boundName kind i)) (out (now (rows .entry)) (now (cols .entry)) (now (vals .entry)) at) (out (now (rows .exit)) (now (cols .exit)) (now (vals .exit)) next) ⌝ }
 {
     let line = bound_line(l, bytes, kind, i);
     let v = l.column_count();
@@ -87,11 +87,11 @@ pub fn bound_rows(
     x: &[f64],
     z: &[f64],
     d: bool,
-    kind: Bound,
+    kind: BoundKind,
 ) -> usize
     requires { ⌜ Given l (now bytes) (now x) (now z) ⌝ }
-    requires { ⌜ at + length (each (boundCount l kind) (λ i. rowIn (netOf l (now bytes)) (now x) (now z) d (boundName kind i))) < 2 ^ 64 ⌝ }
-    ensures { λ next. ⌜ Wrote (each (boundCount l kind) (λ i. rowIn (netOf l (now (bytes .entry))) (now (x .entry)) (now (z .entry)) d (boundName kind i))) (out (now (rows .entry)) (now (cols .entry)) (now (vals .entry)) at) (out (now (rows .exit)) (now (cols .exit)) (now (vals .exit)) next) ⌝ }
+    requires { ⌜ at + length (each (boundCount l kind) (λ i. rowEntries (netOf l (now bytes)) (now x) (now z) d (boundName kind i))) < 2 ^ 64 ⌝ }
+    ensures { λ next. ⌜ Wrote (each (boundCount l kind) (λ i. rowEntries (netOf l (now (bytes .entry))) (now (x .entry)) (now (z .entry)) d (boundName kind i))) (out (now (rows .entry)) (now (cols .entry)) (now (vals .entry)) at) (out (now (rows .exit)) (now (cols .exit)) (now (vals .exit)) next) ⌝ }
 {
     let n = count_of(l, kind);
     let mut next = at;

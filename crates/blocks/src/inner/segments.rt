@@ -12,7 +12,7 @@ ghost use Rattle.lists.specs.Out.{out, Wrote};
 ghost use Rattle.lists.specs.UpTo.{sum, count, each};
 ghost use Rattle.numbering.specs.declared.RowName.the-variants.{Segment};
 ghost use Rattle.numbering.specs.Laid.{netOf};
-ghost use Rattle.complementarity.specs.Writes.{Given, rowIn};
+ghost use Rattle.complementarity.specs.Writes.{Given, rowEntries};
 
 fn segment_row(
     rows: &mut [u32],
@@ -32,8 +32,8 @@ fn segment_row(
     requires { ⌜ Given l (now bytes) (now x) (now z) ⌝ }
     requires { ⌜ (g < l .k) × (t < (netOf l (now bytes)) .segments g) ⌝ }
     requires { ⌜ (before ≡ sum g ((netOf l (now bytes)) .segments)) × (curves ≡ count g ((netOf l (now bytes)) .piecewise)) ⌝ }
-    requires { ⌜ at + length (rowIn (netOf l (now bytes)) (now x) (now z) d (Segment g t)) < 2 ^ 64 ⌝ }
-    ensures { λ next. ⌜ Wrote (rowIn (netOf l (now (bytes .entry))) (now (x .entry)) (now (z .entry)) d (Segment g t)) (out (now (rows .entry)) (now (cols .entry)) (now (vals .entry)) at) (out (now (rows .exit)) (now (cols .exit)) (now (vals .exit)) next) ⌝ }
+    requires { ⌜ at + length (rowEntries (netOf l (now bytes)) (now x) (now z) d (Segment g t)) < 2 ^ 64 ⌝ }
+    ensures { λ next. ⌜ Wrote (rowEntries (netOf l (now (bytes .entry))) (now (x .entry)) (now (z .entry)) d (Segment g t)) (out (now (rows .entry)) (now (cols .entry)) (now (vals .entry)) at) (out (now (rows .exit)) (now (cols .exit)) (now (vals .exit)) next) ⌝ }
 {
     let line = segment(l, bytes, g, t, before, curves);
     let v = l.column_count();
@@ -58,8 +58,8 @@ fn segments_of(
     requires { ⌜ Given l (now bytes) (now x) (now z) ⌝ }
     requires { ⌜ g < l .k ⌝ }
     requires { ⌜ (before ≡ sum g ((netOf l (now bytes)) .segments)) × (curves ≡ count g ((netOf l (now bytes)) .piecewise)) ⌝ }
-    requires { ⌜ at + length (each ((netOf l (now bytes)) .segments g) (λ t. rowIn (netOf l (now bytes)) (now x) (now z) d (Segment g t))) < 2 ^ 64 ⌝ }
-    ensures { λ next. ⌜ Wrote (each ((netOf l (now (bytes .entry))) .segments g) (λ t. rowIn (netOf l (now (bytes .entry))) (now (x .entry)) (now (z .entry)) d (Segment g t))) (out (now (rows .entry)) (now (cols .entry)) (now (vals .entry)) at) (out (now (rows .exit)) (now (cols .exit)) (now (vals .exit)) next) ⌝ }
+    requires { ⌜ at + length (each ((netOf l (now bytes)) .segments g) (λ t. rowEntries (netOf l (now bytes)) (now x) (now z) d (Segment g t))) < 2 ^ 64 ⌝ }
+    ensures { λ next. ⌜ Wrote (each ((netOf l (now (bytes .entry))) .segments g) (λ t. rowEntries (netOf l (now (bytes .entry))) (now (x .entry)) (now (z .entry)) d (Segment g t))) (out (now (rows .entry)) (now (cols .entry)) (now (vals .entry)) at) (out (now (rows .exit)) (now (cols .exit)) (now (vals .exit)) next) ⌝ }
 {
     let r = l.n + l.m + g;
     let n = segments(bytes, r);
@@ -98,8 +98,8 @@ pub fn segment_rows(
     d: bool,
 ) -> usize
     requires { ⌜ Given l (now bytes) (now x) (now z) ⌝ }
-    requires { ⌜ at + length (each (l .k) (λ g. each ((netOf l (now bytes)) .segments g) (λ t. rowIn (netOf l (now bytes)) (now x) (now z) d (Segment g t)))) < 2 ^ 64 ⌝ }
-    ensures { λ next. ⌜ Wrote (each (l .k) (λ g. each ((netOf l (now (bytes .entry))) .segments g) (λ t. rowIn (netOf l (now (bytes .entry))) (now (x .entry)) (now (z .entry)) d (Segment g t)))) (out (now (rows .entry)) (now (cols .entry)) (now (vals .entry)) at) (out (now (rows .exit)) (now (cols .exit)) (now (vals .exit)) next) ⌝ }
+    requires { ⌜ at + length (each (l .k) (λ g. each ((netOf l (now bytes)) .segments g) (λ t. rowEntries (netOf l (now bytes)) (now x) (now z) d (Segment g t)))) < 2 ^ 64 ⌝ }
+    ensures { λ next. ⌜ Wrote (each (l .k) (λ g. each ((netOf l (now (bytes .entry))) .segments g) (λ t. rowEntries (netOf l (now (bytes .entry))) (now (x .entry)) (now (z .entry)) d (Segment g t)))) (out (now (rows .entry)) (now (cols .entry)) (now (vals .entry)) at) (out (now (rows .exit)) (now (cols .exit)) (now (vals .exit)) next) ⌝ }
 {
     let mut before = 0;
     let mut curves = 0;

@@ -14,7 +14,7 @@ ghost use lib.Ieee.{binary64, nan, mul};
 ghost use Rattle.numbering.specs.Layout.{InRange, layoutColumn, layoutRow};
 ghost use Rattle.numbering.specs.declared.ColumnName.the-variants.{Pg};
 ghost use Rattle.rows.specs.Rows.{minusOne, constant64};
-ghost use Rattle.elements.specs.Balance.{balanceRow};
+ghost use Rattle.elements.specs.Balance.{priceRow};
 ghost use Rattle.admittance.specs.Stores.{put, storedAll};
 ghost use Rattle.admittance.specs.Places.{kktIn};
 ghost use Rattle.columns.specs.Jacobian.{voltageRow, genRow, dbdp, costSlope};
@@ -84,7 +84,7 @@ fn cost_slope(term: CostTerm, pg: f64) -> f64
 pub fn demand(l: SocWrLayout, power: Power, i: usize, column: &mut [f64])
     requires { ⌜ InRange l ⌝ }
     requires { ⌜ i < l .n ⌝ }
-    ensures { λ _. ⌜ now (column .exit) ≡ storedAll (put (kktIn l (balanceRow power i)) (constant64 minusOne) ∷ []) (now (column .entry)) ⌝ }
+    ensures { λ _. ⌜ now (column .exit) ≡ storedAll (put (kktIn l (priceRow power i)) (constant64 minusOne) ∷ []) (now (column .entry)) ⌝ }
 {
     let row = balance_row(l, power, i) as usize;
     store_f64(column, l.column_count() as usize + row, -1.0);

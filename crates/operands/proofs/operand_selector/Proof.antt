@@ -5,7 +5,7 @@ use Rattle.refusals.proofs.Laws.{accepted-by, refused-by}
 use Rattle.records.proofs.Laws.{accepted}
 use Rattle.numbering.proofs.Laid.{laid}
 use Rattle.solution.proofs.Entry.{left-first, then-second}
-use Rattle.operands.proofs.Answers.{selected-first}
+use Rattle.interface.proofs.Selectors.{selected-first}
 use Rattle.operands.proofs.operand_selector.Statement.{statement}
 use Rattle.operands.proofs.operand_selector.Tie as tie
 

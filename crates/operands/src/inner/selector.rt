@@ -1,31 +1,33 @@
 // The selector of an operand.
-use crate::Selected;
 use elements::inner::lengths::has_operand;
 use elements::inner::lengths::operand_count;
 use elements::inner::power::balance_row;
 use interface::End;
 use interface::Operand;
 use interface::Power;
+use interface::Selected;
 use interface::VoltageKind;
-use lists::inner::fill_f64;
+use interface::inner::count_up;
+use interface::inner::selected_if;
+use interface::inner::selector_room;
+use interface::inner::unit_items;
 use numbering::SocWrLayout;
 use refusals::Checked;
 use refusals::Refusal;
 use refusals::is_refused;
 use refusals::or_else;
 use refusals::refuse_unless;
-use refusals::room_for;
 ghost use mathlib.Core.Path.{_≡_};
 ghost use mathlib.Core.Bool.{true};
 ghost use Prim.Native.Nat.{_+_, _≤_, _<_};
 ghost use lib.ListN.{length};
 ghost use Rattle.lists.specs.UpTo.{listed, overlay};
 ghost use Rattle.refusals.specs.Refusals.{leftIn};
-ghost use Rattle.interface.specs.Selectors.{unitStarts, unitWeights};
+ghost use Rattle.interface.specs.Selectors.{unitStarts, unitWeights, selectedIf};
 ghost use Rattle.numbering.specs.Layout.{InRange, layoutColumn};
 ghost use Rattle.numbering.specs.Laid.{netOf, Laid};
 ghost use Rattle.elements.specs.Lengths.{hasOperand, operandLen, voltageLen};
-ghost use Rattle.operands.specs.Selector.{dispatchColumn, flowOf, voltageAt, selectorRow, selectorRows, selectorElements, selectorSign, roomCause, operandCause, selectedIf};
+ghost use Rattle.operands.specs.Selector.{dispatchColumn, flowOf, voltageAt, selectorRow, selectorRows, selectorElements, selectorSign, operandCause};
 
 // base, base + 1, .., n of them.
 fn count_from(d: &mut [u32], n: usize, base: u32)
@@ -142,17 +144,6 @@ fn write_rows(l: SocWrLayout, bytes: &[u8], o: Operand, rows: &mut [u32])
     count_from(rows, items, first_row(l, bytes, o));
 }
 
-fn room_cause(items: usize, starts: usize, rows: usize, weights: usize, elements: usize) -> Checked
-    requires { ⌜ items ≤ 8192 ⌝ }
-    ensures { λ r. ⌜ r ≡ roomCause items starts rows weights elements ⌝ }
-{
-    let a = room_for(items + 1, starts);
-    let b = room_for(items, rows);
-    let c = room_for(items, weights);
-    let d = room_for(items, elements);
-    or_else(a, or_else(b, or_else(c, d)))
-}
-
 // 9, 10.
 fn operand_cause(
     l: SocWrLayout,
@@ -168,17 +159,8 @@ fn operand_cause(
     let items = operand_count(l.n, l.m, l.k, o);
     or_else(
         refuse_unless(has_operand(o), Refusal::NotInSocWr),
-        room_cause(items, starts, rows, weights, elements),
+        selector_room(items, starts, rows, weights, elements),
     )
-}
-
-pub fn selected_if(check: Checked, count: u64, sign: f64) -> Selected
-    ensures { λ r. ⌜ r ≡ selectedIf check count sign ⌝ }
-{
-    match check {
-        Checked::Accepted => Selected::Items { count, sign },
-        Checked::Refused(cause) => Selected::Refused(cause),
-    }
 }
 
 // The selector on the layout of accepted records.
@@ -210,12 +192,7 @@ pub fn selector_of(
         return selected_if(check, 0, 0.0);
     }
     let items = operand_count(l.n, l.m, l.k, o);
-    count_from(starts, items + 1, 0);
     write_rows(l, bytes, o, rows);
-    fill_f64(weights, items, 1.0);
-    count_from(elements, items, 0);
-    Selected::Items {
-        count: items as u64,
-        sign: sign(o),
-    }
+    count_up(elements, items);
+    unit_items(items, sign(o), starts, weights)
 }

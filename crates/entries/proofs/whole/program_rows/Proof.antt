@@ -7,43 +7,43 @@ use mathlib.Core.List.{_++_}
 use Rattle.kkt.specs.Kkt.{plainRow}
 use mathlib.Core.Bool.{true, false}
 use Rattle.rows.specs.Program.{equalities, inequalities, secondOrder, everyRow, quadratic}
-use Rattle.complementarity.specs.Writes.{rowIn, coneIn}
+use Rattle.complementarity.specs.Writes.{rowEntries, coneIn}
 use Rattle.entries.proofs.whole.program_rows.Statement.{statement}
 use Rattle.entries.proofs.whole.program_rows.Tie as tie
 use Rattle.numbering.specs.Laid.{netOf}
 
 equality-rows-requires : tie.Need-equality-rows-requires
-unfolding rowIn coneIn
+unfolding rowEntries coneIn
 equality-rows-requires c κs =
     let N = netOf (c .before .before .before .before .before .before .before .before .before .args .l) (now (c .before .before .before .before .before .before .before .before .before .args .bytes)) in
-    (c .before .before .before .before .before .before .before .before .before .pre .0 .laid, (room-before _ _ _ (equalities N (plainRow N)) (inequalities N (rowIn N (now (c .before .before .before .before .before .before .before .before .before .args .x)) (now (c .before .before .before .before .before .before .before .before .before .args .z)) false)) (room-before _ _ _ (equalities N (plainRow N) ++ inequalities N (rowIn N (now (c .before .before .before .before .before .before .before .before .before .args .x)) (now (c .before .before .before .before .before .before .before .before .before .args .z)) false)) (secondOrder N (coneIn N (now (c .before .before .before .before .before .before .before .before .before .args .x)) (now (c .before .before .before .before .before .before .before .before .before .args .z)) false)) (c .before .before .before .before .before .before .before .before .before .pre .1))))
+    (c .before .before .before .before .before .before .before .before .before .pre .0 .laid, (room-before _ _ _ (equalities N (plainRow N)) (inequalities N (rowEntries N (now (c .before .before .before .before .before .before .before .before .before .args .x)) (now (c .before .before .before .before .before .before .before .before .before .args .z)) false)) (room-before _ _ _ (equalities N (plainRow N) ++ inequalities N (rowEntries N (now (c .before .before .before .before .before .before .before .before .before .args .x)) (now (c .before .before .before .before .before .before .before .before .before .args .z)) false)) (secondOrder N (coneIn N (now (c .before .before .before .before .before .before .before .before .before .args .x)) (now (c .before .before .before .before .before .before .before .before .before .args .z)) false)) (c .before .before .before .before .before .before .before .before .before .pre .1))))
 
 inequality-rows-requires : tie.Need-inequality-rows-requires
-unfolding rowIn coneIn
+unfolding rowEntries coneIn
 inequality-rows-requires c κs =
     let N = netOf (c .before .before .before .before .before .before .before .before .before .before .before .before .before .before .before .before .before .before .before .args .l) (now (c .before .before .before .before .before .before .before .before .before .before .before .before .before .before .before .before .before .before .before .args .bytes)) in
-    (c .before .before .before .before .before .before .before .before .before .before .before .before .before .before .before .before .before .before .before .pre .0, (room-plain _ _ (inequalities N (rowIn N (now (c .before .before .before .before .before .before .before .before .before .before .before .before .before .before .before .before .before .before .before .args .x)) (now (c .before .before .before .before .before .before .before .before .before .before .before .before .before .before .before .before .before .before .before .args .z)) false)) (room-after (inequalities N (rowIn N (now (c .before .before .before .before .before .before .before .before .before .before .before .before .before .before .before .before .before .before .before .args .x)) (now (c .before .before .before .before .before .before .before .before .before .before .before .before .before .before .before .before .before .before .before .args .z)) false)) (c .before .before .before .before .before .before .before .before .before .equality-rows .ensures) (room-before _ _ _ (equalities N (plainRow N) ++ inequalities N (rowIn N (now (c .before .before .before .before .before .before .before .before .before .before .before .before .before .before .before .before .before .before .before .args .x)) (now (c .before .before .before .before .before .before .before .before .before .before .before .before .before .before .before .before .before .before .before .args .z)) false)) (secondOrder N (coneIn N (now (c .before .before .before .before .before .before .before .before .before .before .before .before .before .before .before .before .before .before .before .args .x)) (now (c .before .before .before .before .before .before .before .before .before .before .before .before .before .before .before .before .before .before .before .args .z)) false)) (c .before .before .before .before .before .before .before .before .before .before .before .before .before .before .before .before .before .before .before .pre .1)))))
+    (c .before .before .before .before .before .before .before .before .before .before .before .before .before .before .before .before .before .before .before .pre .0, (room-plain _ _ (inequalities N (rowEntries N (now (c .before .before .before .before .before .before .before .before .before .before .before .before .before .before .before .before .before .before .before .args .x)) (now (c .before .before .before .before .before .before .before .before .before .before .before .before .before .before .before .before .before .before .before .args .z)) false)) (room-after (inequalities N (rowEntries N (now (c .before .before .before .before .before .before .before .before .before .before .before .before .before .before .before .before .before .before .before .args .x)) (now (c .before .before .before .before .before .before .before .before .before .before .before .before .before .before .before .before .before .before .before .args .z)) false)) (c .before .before .before .before .before .before .before .before .before .equality-rows .ensures) (room-before _ _ _ (equalities N (plainRow N) ++ inequalities N (rowEntries N (now (c .before .before .before .before .before .before .before .before .before .before .before .before .before .before .before .before .before .before .before .args .x)) (now (c .before .before .before .before .before .before .before .before .before .before .before .before .before .before .before .before .before .before .before .args .z)) false)) (secondOrder N (coneIn N (now (c .before .before .before .before .before .before .before .before .before .before .before .before .before .before .before .before .before .before .before .args .x)) (now (c .before .before .before .before .before .before .before .before .before .before .before .before .before .before .before .before .before .before .before .args .z)) false)) (c .before .before .before .before .before .before .before .before .before .before .before .before .before .before .before .before .before .before .before .pre .1)))))
 
 cone-rows-requires : tie.Need-cone-rows-requires
-unfolding rowIn coneIn
+unfolding rowEntries coneIn
 cone-rows-requires c κs =
     let N = netOf (c .before .before .before .before .before .before .before .before .before .before .before .before .before .before .before .before .before .before .before .before .before .before .before .before .before .before .before .before .before .args .l) (now (c .before .before .before .before .before .before .before .before .before .before .before .before .before .before .before .before .before .before .before .before .before .before .before .before .before .before .before .before .before .args .bytes)) in
     (c .before .before .before .before .before .before .before .before .before .before .before .before .before .before .before .before .before .before .before .before .before .before .before .before .before .before .before .before .before .pre .0, (room-plain _ _ (secondOrder N (coneIn N (now (c .before .before .before .before .before .before .before .before .before .before .before .before .before .before .before .before .before .before .before .before .before .before .before .before .before .before .before .before .before .args .x)) (now (c .before .before .before .before .before .before .before .before .before .before .before .before .before .before .before .before .before .before .before .before .before .before .before .before .before .before .before .before .before .args .z)) false)) (room-after (secondOrder N (coneIn N (now (c .before .before .before .before .before .before .before .before .before .before .before .before .before .before .before .before .before .before .before .before .before .before .before .before .before .before .before .before .before .args .x)) (now (c .before .before .before .before .before .before .before .before .before .before .before .before .before .before .before .before .before .before .before .before .before .before .before .before .before .before .before .before .before .args .z)) false)) (ahead-then (c .before .before .before .before .before .before .before .before .before .before .before .before .before .before .before .before .before .before .before .equality-rows .ensures) (ahead-wrote _ (c .before .before .before .before .before .before .before .before .before .inequality-rows .ensures))) (c .before .before .before .before .before .before .before .before .before .before .before .before .before .before .before .before .before .before .before .before .before .before .before .before .before .before .before .before .before .pre .1))))
 
 same-length : tie.Need-same-length
-unfolding rowIn coneIn
+unfolding rowEntries coneIn
 same-length c = ahead-rows (ahead-then (ahead-then (c .before .before .before .before .before .before .before .before .before .before .before .before .before .before .before .before .before .before .before .before .before .before .before .before .before .before .equality-rows .ensures) (ahead-wrote _ (c .before .before .before .before .before .before .before .before .before .before .before .before .before .before .before .before .inequality-rows .ensures))) (ahead-wrote _ (c .before .before .before .before .before .before .cone-rows .ensures)))
 
 same-length-2 : tie.Need-same-length-2
-unfolding rowIn coneIn
+unfolding rowEntries coneIn
 same-length-2 c = ahead-cols (ahead-then (ahead-then (c .before .before .before .before .before .before .before .before .before .before .before .before .before .before .before .before .before .before .before .before .before .before .before .before .before .before .equality-rows .ensures) (ahead-wrote _ (c .before .before .before .before .before .before .before .before .before .before .before .before .before .before .before .before .inequality-rows .ensures))) (ahead-wrote _ (c .before .before .before .before .before .before .cone-rows .ensures)))
 
 same-length-3 : tie.Need-same-length-3
-unfolding rowIn coneIn
+unfolding rowEntries coneIn
 same-length-3 c = ahead-vals (ahead-then (ahead-then (c .before .before .before .before .before .before .before .before .before .before .before .before .before .before .before .before .before .before .before .before .before .before .before .before .before .before .equality-rows .ensures) (ahead-wrote _ (c .before .before .before .before .before .before .before .before .before .before .before .before .before .before .before .before .inequality-rows .ensures))) (ahead-wrote _ (c .before .before .before .before .before .before .cone-rows .ensures)))
 
 returns : tie.Need-returns
-unfolding rowIn coneIn
+unfolding rowEntries coneIn
 returns c = (ahead-then (ahead-then (c .before .before .before .before .before .before .before .before .before .before .before .before .before .before .before .before .before .before .before .before .before .before .before .before .before .before .equality-rows .ensures) (ahead-wrote _ (c .before .before .before .before .before .before .before .before .before .before .before .before .before .before .before .before .inequality-rows .ensures))) (ahead-wrote _ (c .before .before .before .before .before .before .cone-rows .ensures)))
 
 pub program-rows-spec : {M : Type 1} → statement M

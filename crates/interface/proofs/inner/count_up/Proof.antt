@@ -1,3 +1,4 @@
+-- `interface::inner::count_up` meets its contract: the list so far is that of the places passed. Assumes nothing.
 use Prim.Native.Nat.{ℕ, _≤_, _-_}
 use mathlib.Core.Path.{_≡_, refl}
 use native.Mathlib.Omega.{arith}
@@ -5,10 +6,8 @@ use borrow.Author.Needs.{needs}
 use lib.ListN.{length}
 use Rattle.lists.specs.UpTo.{listed}
 use Rattle.lists.proofs.Overlay.{Overlaid, long, front-none, front-more}
-use Rattle.interface.proofs.selector.count_up.Statement.{statement}
-use Rattle.interface.proofs.selector.count_up.Tie as tie
-use Rattle.interface.proofs.selector.count_up.Reads as reads
-use Rattle.interface.proofs.selector.count_up.Lts as lts
+use Rattle.interface.proofs.inner.count_up.Statement.{statement}
+use Rattle.interface.proofs.inner.count_up.Tie as tie
 
 abbrev Inv-loop : tie.InvT-loop
 Inv-loop d₀ n i₀ d i = (i ≤ n) × (length d ≡ length d₀) × Overlaid (listed i (λ (j : ℕ). j)) d₀ d
@@ -16,41 +15,32 @@ Inv-loop d₀ n i₀ d i = (i ≤ n) × (length d ≡ length d₀) × Overlaid (
 abbrev μ-loop : tie.MeasureT-loop
 μ-loop d₀ n i₀ d i = n - i
 
--- src/selector.rt:38:5
 loop-holds : tie.Need-loop-holds Inv-loop μ-loop
 loop-holds c = (omega arith, refl, front-none _)
 
--- src/selector.rt:39:16
 cast-d : tie.Need-cast-d Inv-loop μ-loop
 cast-d c = search needs
 
--- src/selector.rt:39:9
 mul-d : tie.Need-mul-d Inv-loop μ-loop
 mul-d c = search needs
 
--- src/selector.rt:39:9
 slice-write-d : tie.Need-slice-write-d Inv-loop μ-loop
 slice-write-d c = search needs
 
--- src/selector.rt:38:9
 add-i : tie.Need-add-i Inv-loop μ-loop
 add-i c = search needs
 
--- src/selector.rt:38:5
 loop-less : tie.Need-loop-less Inv-loop μ-loop
 loop-less c = search needs
 
--- src/selector.rt:38:5
 loop-again : tie.Need-loop-again Inv-loop μ-loop
 loop-again c =
     let o = front-more _ (c .before .loop .inv .2) _ refl (omega arith) in
     (omega arith, long o, o)
 
--- src/selector.rt:34:1
 same-length : tie.Need-same-length Inv-loop μ-loop
 same-length c = search needs
 
--- src/selector.rt:34:1
 returns : tie.Need-returns Inv-loop μ-loop
 returns c =
     let e : c .before .loop .i ≡ c .before .before .args .n = omega arith in

@@ -1,6 +1,6 @@
 -- `interface::inner::selected_if` meets its contract. Assumes nothing.
 use borrow.Author.Needs.{needs}
-use Rattle.interface.specs.Selector.{selectedIf}
+use Rattle.interface.specs.Selectors.{selectedIf}
 use Rattle.interface.proofs.inner.selected_if.Statement.{statement}
 use Rattle.interface.proofs.inner.selected_if.Tie as tie
 

@@ -5,7 +5,7 @@ use Rattle.lists.specs.UpTo.{each}
 use Rattle.lists.specs.Out.{out, Wrote}
 use Rattle.lists.proofs.Written.{no-turn, turn, len-rows, len-cols, len-vals}
 use Rattle.complementarity.proofs.Rooms.{room-turn}
-use Rattle.complementarity.specs.Writes.{rowIn}
+use Rattle.complementarity.specs.Writes.{rowEntries}
 use Rattle.blocks.specs.Kinds.{boundName}
 use borrow.Author.Needs.{needs}
 use native.Mathlib.Omega.{arith}
@@ -14,7 +14,7 @@ use Rattle.blocks.proofs.inner.bounds.bound_rows.Tie as tie
 use Rattle.numbering.specs.Laid.{netOf}
 
 abbrev Inv-loop : tie.InvT-loop
-Inv-loop rows₀ cols₀ vals₀ at l bytes x z d kind n next₀ i₀ rows cols vals next i = (i ≤ n) × Wrote (each i (λ i. rowIn (netOf l bytes) x z d (boundName kind i))) (out rows₀ cols₀ vals₀ at) (out rows cols vals next)
+Inv-loop rows₀ cols₀ vals₀ at l bytes x z d kind n next₀ i₀ rows cols vals next i = (i ≤ n) × Wrote (each i (λ i. rowEntries (netOf l bytes) x z d (boundName kind i))) (out rows₀ cols₀ vals₀ at) (out rows cols vals next)
 
 abbrev μ-loop : tie.MeasureT-loop
 μ-loop rows₀ cols₀ vals₀ at l bytes x z d kind n next₀ i₀ rows cols vals next i = n - i

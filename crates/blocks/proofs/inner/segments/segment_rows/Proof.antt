@@ -9,7 +9,7 @@ use Rattle.lists.proofs.Written.{no-turn, turn, len-rows, len-cols, len-vals}
 use Rattle.numbering.specs.declared.RowName.the-variants.{Segment}
 use Rattle.records.proofs.Segments.{segments-below}
 use Rattle.numbering.specs.Laid.{netOf}
-use Rattle.complementarity.specs.Writes.{rowIn}
+use Rattle.complementarity.specs.Writes.{rowEntries}
 use Rattle.complementarity.proofs.Rooms.{room-turn}
 use Rattle.blocks.proofs.Laws.{sum-more, count-more, none-yet}
 use borrow.Author.Needs.{needs}
@@ -19,7 +19,7 @@ use Rattle.blocks.proofs.inner.segments.segment_rows.Tie as tie
 
 abbrev Inv-loop : tie.InvT-loop
 Inv-loop rows₀ cols₀ vals₀ at l bytes x z d before₀ curves₀ next₀ g₀ rows cols vals before curves next g =
-    (g ≤ l .k) × Wrote (each g (λ g. each (netOf l bytes .segments g) (λ t. rowIn (netOf l bytes) x z d (Segment g t)))) (out rows₀ cols₀ vals₀ at) (out rows cols vals next)
+    (g ≤ l .k) × Wrote (each g (λ g. each (netOf l bytes .segments g) (λ t. rowEntries (netOf l bytes) x z d (Segment g t)))) (out rows₀ cols₀ vals₀ at) (out rows cols vals next)
     × (before ≡ sum g (netOf l bytes .segments)) × (curves ≡ count g (netOf l bytes .piecewise))
 
 abbrev μ-loop : tie.MeasureT-loop

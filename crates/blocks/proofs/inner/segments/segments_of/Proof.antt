@@ -5,7 +5,7 @@ use Rattle.lists.specs.UpTo.{each}
 use Rattle.lists.specs.Out.{out, Wrote}
 use Rattle.lists.proofs.Written.{no-turn, turn, len-rows, len-cols, len-vals}
 use Rattle.complementarity.proofs.Rooms.{room-turn}
-use Rattle.complementarity.specs.Writes.{rowIn}
+use Rattle.complementarity.specs.Writes.{rowEntries}
 use Rattle.numbering.specs.declared.RowName.the-variants.{Segment}
 use Rattle.numbering.specs.Laid.{netOf}
 use borrow.Author.Needs.{needs}
@@ -14,7 +14,7 @@ use Rattle.blocks.proofs.inner.segments.segments_of.Statement.{statemen
 use Rattle.blocks.proofs.inner.segments.segments_of.Tie as tie
 
 abbrev Inv-loop : tie.InvT-loop
-Inv-loop rows₀ cols₀ vals₀ at l bytes x z d g before curves r n next₀ t₀ rows cols vals next t = (t ≤ n) × Wrote (each t (λ t. rowIn (netOf l bytes) x z d (Segment g t))) (out rows₀ cols₀ vals₀ at) (out rows cols vals next)
+Inv-loop rows₀ cols₀ vals₀ at l bytes x z d g before curves r n next₀ t₀ rows cols vals next t = (t ≤ n) × Wrote (each t (λ t. rowEntries (netOf l bytes) x z d (Segment g t))) (out rows₀ cols₀ vals₀ at) (out rows cols vals next)
 
 abbrev μ-loop : tie.MeasureT-loop
 μ-loop rows₀ cols₀ vals₀ at l bytes x z d g before curves r n next₀ t₀ rows cols vals next t = n - t
