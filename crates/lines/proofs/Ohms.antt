@@ -8,13 +8,14 @@ use Rattle.lists.specs.UpTo.{when}
 use Rattle.lists.specs.Entries.{entry}
 use Rattle.records.specs.AcNetwork.{AcNetwork}
 use Rattle.numbering.specs.Numbering.{columnNumber, rowNumber}
+use Rattle.numbering.specs.Layout.{layoutColumn}
 use Rattle.numbering.specs.Laid.{netOf, Laid}
 use Rattle.numbering.specs.declared.SocWrLayout.{SocWrLayout}
 use Rattle.numbering.specs.declared.ColumnName.{ColumnName}
 use Rattle.numbering.specs.declared.ColumnName.the-variants.{W, Wr, Wi, Pf, Pt, Qf, Qt}
 use Rattle.numbering.specs.declared.RowName.the-variants.{OhmPf, OhmQf, OhmPt, OhmQt}
 use Rattle.numbering.proofs.Numbers.{row-below}
-use Rattle.numbering.proofs.Laid.{laid-column, laid-row}
+use Rattle.numbering.proofs.Laid.{laid-column}
 use Rattle.rows.specs.Rows.{terms, term, kept, zero64, constant64, one, OhmRow, pf, qf, pt, qt, w, wr, wi, ohmValue, ohmRow, flowColumn, endBus}
 use Rattle.rows.specs.Program.{inRow, nonzero}
 use Rattle.lines.specs.Ohm.{ohmOf, ohmAt, OhmStands}

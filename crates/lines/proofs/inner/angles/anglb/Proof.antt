@@ -13,13 +13,13 @@ returns c =
       c .line .ensures,
       c .before .before .before .spot .ensures,
       c .before .spot2 .ensures,
-      told .before .angle .ensures .0 .rhs,
+      told .before .angle .ensures .1 .rhs,
       c .before .before .before .before .before .before .anglb-row .ensures,
       c .before .before .before .before .wr-column .ensures,
       c .before .before .wi-column .ensures,
-      side .0 .on,
+      side .1 .on,
     )
-    (anglb-stands _ _ (s .pre .0) _ (told .min-tangent .result) (s .pre .1) (λ h. rw (told .min-tangent .ensures, side .0 .on, h)))
+    (anglb-stands _ _ (s .pre .0) _ (told .min-tangent .result) (s .pre .1) (λ h. rw (told .min-tangent .ensures, side .1 .on, h)))
 
 pub anglb-spec : {M : Type 1} → statement M
 anglb-spec = tie.close (tie.spec (λ c. search needs) (λ c κs. search needs) (λ c κs. search needs) (λ c κs. search needs) (λ c κs. search needs) (λ c κs. search needs) (λ c κs. search needs) (λ c κs. search needs) (λ c κs. search needs) returns)

@@ -1,6 +1,7 @@
 -- `lines::inner::generators::segment` meets its contract. Its record, row and cost column are by the segments and cost columns before it, which are as many as the layout has at most. Assumes nothing.
 use Prim.Native.Nat.{ℕ, _+_}
 use mathlib.Core.Path.{ap}
+use Rattle.rows.specs.Rows.{b}
 use Rattle.records.proofs.Segments.{segment-record, segment-inside}
 use Rattle.lines.proofs.Lines.{segments-in, curves-in, segment-stands}
 use borrow.Author.Needs.{needs}
@@ -52,6 +53,7 @@ segment-side-requires c κs =
 
 
 returns : tie.Need-returns
+unfolding b
 returns c =
     let s = c .before .before .before .before .before .before .before .before .before .before .before in
     let a = s .args in
