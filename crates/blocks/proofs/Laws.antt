@@ -4,11 +4,13 @@ use mathlib.Core.Path.{_≡_, refl, sym, ap₂, _∙_}
 use mathlib.Core.Bool.{Bool}
 use mathlib.Core.List.{List}
 use native.Mathlib.Omega.{arith}
-use lib.Ieee.{binary64, mul}
+use lib.Ieee.{Float, binary64, mul}
 use Rattle.lists.specs.UpTo.{upTo, sum, bit, count}
 use Rattle.lists.specs.Entries.{Entry}
 use Rattle.lists.proofs.Sums.{sum-mono, sum-next}
-use Rattle.numbering.specs.Layout.{layoutColumn, nvarOf}
+use Rattle.records.specs.AcNetwork.{AcNetwork}
+use Rattle.numbering.specs.Numbering.{columnNumber}
+use Rattle.numbering.specs.Layout.{nvarOf}
 use Rattle.numbering.specs.Laid.{netOf, Laid}
 use Rattle.numbering.specs.declared.ColumnName.the-variants.{Pg}
 use Rattle.rows.specs.Ops.{rounded}
@@ -38,6 +40,5 @@ unfolding upTo
 none-yet a = refl
 
 -- P at generator g
-abbrev pub diagonalAt : SocWrLayout → List ℕ → ℕ → List Entry
-diagonalAt l bytes g =
-    nonzero (layoutColumn l (Pg g)) (layoutColumn l (Pg g)) (mul binary64 (rounded .two) (netOf l bytes .cq g))
+abbrev pub diagonalAt : AcNetwork Float → ℕ → List Entry
+diagonalAt G g = nonzero (columnNumber G (Pg g)) (columnNumber G (Pg g)) (mul binary64 (rounded .two) (G .cq g))

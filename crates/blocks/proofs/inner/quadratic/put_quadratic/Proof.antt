@@ -1,11 +1,14 @@
--- `blocks::inner::quadratic::put_quadratic` meets its contract. Assumes nothing.
+-- `blocks::inner::quadratic::put_quadratic` meets its contract. Each turn writes the diagonal at one generator's column, whose number by the layout is the network's. Assumes nothing.
 use Prim.Native.Nat.{_≤_, _-_}
-use mathlib.Core.Path.{_≡_}
+use mathlib.Core.Path.{_≡_, refl, _∙_}
 use Rattle.lists.specs.UpTo.{each}
 use Rattle.lists.specs.Out.{out, Wrote}
 use Rattle.lists.proofs.Written.{no-turn, turn, len-rows, len-cols, len-vals}
 use Rattle.complementarity.proofs.Rooms.{room-turn}
 use denote.Ref.{now}
+use Rattle.numbering.specs.Laid.{netOf}
+use Rattle.numbering.specs.declared.ColumnName.the-variants.{Pg}
+use Rattle.numbering.proofs.Laid.{laid-column}
 use Rattle.rows.specs.Program.{quadratic}
 use Rattle.blocks.proofs.Laws.{diagonalAt}
 use borrow.Author.Needs.{needs}
@@ -14,7 +17,7 @@ use Rattle.blocks.proofs.inner.quadratic.put_quadratic.Statement.{state
 use Rattle.blocks.proofs.inner.quadratic.put_quadratic.Tie as tie
 
 abbrev Inv-loop : tie.InvT-loop
-Inv-loop rows₀ cols₀ vals₀ at l bytes next₀ g₀ rows cols vals next g = (g ≤ l .k) × Wrote (each g (diagonalAt l bytes)) (out rows₀ cols₀ vals₀ at) (out rows cols vals next)
+Inv-loop rows₀ cols₀ vals₀ at l bytes next₀ g₀ rows cols vals next g = (g ≤ l .k) × Wrote (each g (diagonalAt (netOf l bytes))) (out rows₀ cols₀ vals₀ at) (out rows cols vals next)
 
 abbrev μ-loop : tie.MeasureT-loop
 μ-loop rows₀ cols₀ vals₀ at l bytes next₀ g₀ rows cols vals next g = l .k - g
@@ -29,14 +32,21 @@ cq-requires : tie.Need-cq-requires Inv-loop μ-loop
 cq-requires c κs = omega (arith, c .before .before .before .before .before .before .before .before .pre .0 .accepted .size)
 
 pg-column-requires : tie.Need-pg-column-requires Inv-loop μ-loop
-pg-column-requires c κs = (c .before .before .before .before .before .before .before .before .before .pre .0 .range, c .before .before .if1 .taken)
+pg-column-requires c κs = (c .before .before .before .before .before .before .before .before .before .pre .0 .range, omega (arith, c .before .before .if1 .taken))
 
 put-if-requires : tie.Need-put-if-requires Inv-loop μ-loop
 unfolding quadratic
-put-if-requires c κs = rw (c .before .before .before .pg-column .ensures, c .before .before .before .before .cq .ensures) (room-turn (diagonalAt (c .before .before .before .before .before .before .before .before .before .before .before .before .before .args .l) (now (c .before .before .before .before .before .before .before .before .before .before .before .before .before .args .bytes))) _ _ (c .before .before .before .before .before .before .before .before .loop .inv .1) (c .before .before .before .before .before .before .if1 .taken) (c .before .before .before .before .before .before .before .before .before .before .before .before .before .pre .1))
+put-if-requires c κs =
+    let s = c .before .before .before .before .before .before .before .before .before .before .before .before .before in
+    let col = c .before .before .before .pg-column .ensures ∙ laid-column _ _ (s .pre .0) (Pg (c .before .before .before .before .before .before .before .before .loop .g)) refl in
+    rw (col, c .before .before .before .before .cq .ensures)
+    (room-turn (diagonalAt (netOf (s .args .l) (now (s .args .bytes)))) _ _ (c .before .before .before .before .before .before .before .before .loop .inv .1) (c .before .before .before .before .before .before .if1 .taken) (s .pre .1))
 
 loop-again : tie.Need-loop-again Inv-loop μ-loop
-loop-again c = (omega arith, turn _ _ (c .before .before .before .before .before .before .before .before .before .before .before .before .before .before .before .loop .inv .1) (rw (c .before .before .before .before .before .before .before .before .before .before .pg-column .ensures, c .before .before .before .before .before .before .before .before .before .before .before .cq .ensures) at (c .before .before .before .before .before .before .put-if .ensures)))
+loop-again c =
+    let s = c .before .before .before .before .before .before .before .before .before .before .before .before .before .before .before .before .before .before .before .before in
+    let col = c .before .before .before .before .before .before .before .before .before .before .pg-column .ensures ∙ laid-column _ _ (s .pre .0) (Pg (c .before .before .before .before .before .before .before .before .before .before .before .before .before .before .before .loop .g)) refl in
+    (omega arith, turn _ _ (c .before .before .before .before .before .before .before .before .before .before .before .before .before .before .before .loop .inv .1) (rw (col, c .before .before .before .before .before .before .before .before .before .before .before .cq .ensures) at (c .before .before .before .before .before .before .put-if .ensures)))
 
 returns : tie.Need-returns Inv-loop μ-loop
 unfolding quadratic
