@@ -6,6 +6,7 @@ use mathlib.Core.List.{List}
 use lib.Ieee.{Float}
 use Rattle.records.specs.Fields.{angledOf}
 use Rattle.numbering.specs.declared.SocWrLayout.{SocWrLayout}
+use Rattle.numbering.specs.declared.RowName.the-variants.{Angub, Anglb}
 use Rattle.rows.specs.Ops.{rounded}
 use Rattle.rows.specs.Rows.{b, zero64}
 use Rattle.sides.specs.Sides.{BusBlock, pbal, qbal, wub, wlb, GenBlock, pgub, pglb, qgub, qglb, sideAt}
@@ -24,6 +25,6 @@ last-gen qglb a b c = refl
 
 -- the two angle rows of a branch have one right side
 pub angle-sides : (l : SocWrLayout) (bytes : List ℕ) (e : ℕ) {on : Bool} {v : Float} → on ≡ angledOf bytes (l .n + e) → v ≡ cond on zero64 (rounded .one)
-    → (v ≡ sideAt l bytes 12 e) × (v ≡ sideAt l bytes 13 e)
+    → (v ≡ sideAt l bytes Angub e) × (v ≡ sideAt l bytes Anglb e)
 unfolding sideAt b
 angle-sides l bytes e h q = (q ∙ rw h, q ∙ rw h)
