@@ -1,5 +1,5 @@
 -- b and q in the parts in which the code writes them. Assumes nothing.
-use Prim.Native.Nat.{ℕ, zero, suc, _+_, _*_}
+use Prim.Native.Nat.{ℕ, zero, suc, _+_, _-_, _*_, _≤_}
 use mathlib.Core.Path.{_≡_, refl, sym, ap, _∙_}
 use mathlib.Core.Bool.{Bool, true, false}
 use mathlib.Core.List.{List, [], _∷_, _++_, append-assoc}
@@ -10,11 +10,14 @@ use lib.Ieee.{Float, binary64, add, neg}
 use Rattle.lists.specs.UpTo.{upTo, each, listed, when, bit, sum, count}
 use Rattle.lists.proofs.Each.{each-ext, each-split}
 use Rattle.records.specs.Fields.{interceptOf}
-use Rattle.numbering.specs.Layout.{nvarOf, nconOf}
+use Rattle.numbering.specs.Layout.{layoutColumn, layoutRow, nvarOf, nconOf}
 use Rattle.records.proofs.Segments.{segment-record}
 use Rattle.numbering.specs.Laid.{netOf, Laid}
 use Rattle.numbering.specs.declared.SocWrLayout.{SocWrLayout}
-use Rattle.numbering.specs.declared.RowName.the-variants.{Segment}
+use Rattle.numbering.specs.declared.ColumnName.the-variants.{Qg, CostOf}
+use Rattle.numbering.specs.declared.RowName.{RowName}
+use Rattle.numbering.specs.declared.RowName.the-variants.{Pbal, Qbal, OhmPf, OhmQf, OhmPt, OhmQt, Wub, Wlb, Pgub, Pglb, Qgub, Qglb, Angub, Anglb, Segment}
+use Rattle.numbering.proofs.Numbers.{layout-column, layout-row, layout-ncon}
 use Rattle.numbering.proofs.Laid.{curves-are, laid-nvar, laid-ncon}
 use Rattle.rows.specs.Ops.{rounded}
 use Rattle.rows.specs.Rows.{b, zero64}
@@ -76,6 +79,14 @@ eight-blocks k n m x a c =
     )
     (simp append-assoc)
 
+-- the rows of wlb, and of qglb, are among all
+module _ (l : SocWrLayout) where
+  pub voltages-end : layoutRow l (Wlb 0) + l .n ≤ nconOf l
+  voltages-end = omega (arith, layout-row l (Wlb 0), layout-ncon l)
+
+  pub generators-end : layoutRow l (Qglb 0) + l .k ≤ nconOf l
+  generators-end = omega (arith, layout-row l (Qglb 0), layout-ncon l)
+
 module _ (l : SocWrLayout) (bytes : List ℕ) (laid : Laid l bytes) where
   -- q
   pub linear-length : length (linear (netOf l bytes)) ≡ nvarOf l
@@ -83,11 +94,12 @@ module _ (l : SocWrLayout) (bytes : List ℕ) (laid : Laid l bytes) where
   linear-length = listed-length _ _ ∙ sym (laid-nvar l bytes laid)
 
   pub linear-parts : linear (netOf l bytes)
-      ≡ listed (l .k) (linearCost l bytes) ++ listed (l .k + l .n + 6 * l .m) (λ c. zero64) ++ listed (l .«cost_columns») (λ c. add binary64 zero64 (rounded .one))
+      ≡ listed (l .k) (linearCost l bytes) ++ listed (layoutColumn l (CostOf 0) - layoutColumn l (Qg 0)) (λ c. zero64) ++ listed (l .«cost_columns») (λ c. add binary64 zero64 (rounded .one))
   unfolding linearCost
   linear-parts =
+      let e : layoutColumn l (CostOf 0) - layoutColumn l (Qg 0) ≡ l .k + l .n + 6 * l .m = omega (arith, layout-column l (CostOf 0), layout-column l (Qg 0)) in
       linear-side (netOf l bytes)
-      ∙ rw (ones (l .k) (netOf l bytes .piecewise) (add binary64 zero64 (rounded .one)), ← curves-are l bytes laid)
+      ∙ rw (e, ones (l .k) (netOf l bytes .piecewise) (add binary64 zero64 (rounded .one)), ← curves-are l bytes laid)
       (eight-blocks (l .k) (l .n) (l .m) zero64 (listed (l .k) (linearCost l bytes)) (listed (l .«cost_columns») (λ c. add binary64 zero64 (rounded .one))))
 
   intercepts : each (l .k) (λ g. each (netOf l bytes .segments g) (λ t. b (netOf l bytes) (Segment g t) ∷ [])) ≡ listed (l .s) (λ r. neg (interceptOf bytes (l .n + l .m + l .k + r)))
@@ -140,8 +152,9 @@ module _ (l : SocWrLayout) (bytes : List ℕ) (laid : Laid l bytes) where
   right-parts =
       right-side (netOf l bytes)
       ∙ rw (intercepts, each-same 4 (l .m) zero64)
-      (regroup (f 0 (l .n)) (f 1 (l .n)) (f 2 (l .m)) (f 3 (l .m)) (f 4 (l .m)) (f 5 (l .m)) (listed (4 * l .m) (λ e. zero64)) (f 6 (l .n)) (f 7 (l .n)) (f 8 (l .k)) (f 9 (l .k)) (f 10 (l .k)) (f 11 (l .k)) (f 12 (l .m)) (f 13 (l .m))
+      (regroup (f Pbal (l .n)) (f Qbal (l .n)) (f OhmPf (l .m)) (f OhmQf (l .m)) (f OhmPt (l .m)) (f OhmQt (l .m)) (listed (4 * l .m) (λ e. zero64)) (f Wub (l .n)) (f Wlb (l .n))
+      (f Pgub (l .k)) (f Pglb (l .k)) (f Qgub (l .k)) (f Qglb (l .k)) (f Angub (l .m)) (f Anglb (l .m))
       (listed (l .s) (λ r. neg (interceptOf bytes (l .n + l .m + l .k + r)))) (listed (4 * l .m) (λ e. zero64)) (each (l .m) (ratingsAt l bytes)) (four-blocks (l .m) zero64))
     where
-      f : ℕ → ℕ → List Float
-      f p n = listed n (sideAt l bytes p)
+      f : (ℕ → RowName) → ℕ → List Float
+      f row n = listed n (sideAt l bytes row)

@@ -8,14 +8,20 @@ use bounds::inner::upper_active;
 use bounds::inner::upper_reactive;
 use bounds::inner::upper_voltage;
 use numbering::SocWrLayout;
+use numbering::inner::blocks;
 ghost use mathlib.Core.Path.{_≡_};
 ghost use Prim.Native.Nat.{_+_, _*_, _≤_, _<_};
 ghost use lib.ListN.{length};
 ghost use lib.Ieee.{neg};
 ghost use Rattle.lists.specs.UpTo.{each, listed, when, overlay};
 ghost use Rattle.records.specs.Fields.{interceptOf};
-ghost use Rattle.numbering.specs.Layout.{nvarOf, nconOf};
+ghost use Rattle.numbering.specs.Blocks.{key};
+ghost use Rattle.numbering.specs.Numbering.{rowOf};
+ghost use Rattle.numbering.specs.Layout.{layoutColumn, layoutRow, nvarOf, nconOf};
+ghost use Rattle.numbering.specs.declared.ColumnName.the-variants.{Pg};
+ghost use Rattle.numbering.specs.declared.RowName.the-variants.{Pbal, Wub, Pgub, Angub, Anglb, Thermal};
 ghost use Rattle.numbering.specs.Laid.{netOf, Laid};
+ghost use Rattle.rows.specs.Rows.{b};
 ghost use Rattle.rows.specs.Program.{linear};
 ghost use Rattle.matrix.specs.Lists.{rightSide};
 ghost use Rattle.cells.specs.Filled.{Filled};
@@ -28,15 +34,15 @@ fn bus_rhs(l: SocWrLayout, bytes: &[u8], block: usize, i: usize) -> f64
     requires { ⌜ Laid l (now bytes) ⌝ }
     requires { ⌜ BusBlock block ⌝ }
     requires { ⌜ i < l .n ⌝ }
-    ensures { λ r. ⌜ r ≡ sideAt l (now (bytes .entry)) block i ⌝ }
+    ensures { λ r. ⌜ r ≡ b (netOf l (now (bytes .entry))) (rowOf (key block i 0)) ⌝ }
 {
-    if block == 0 {
+    if block == blocks::PBAL {
         return records::inner::pd(bytes, i);
     }
-    if block == 1 {
+    if block == blocks::QBAL {
         return records::inner::qd(bytes, i);
     }
-    if block == 6 {
+    if block == blocks::WUB {
         let s = upper_voltage(l, bytes, i);
         return s.rhs;
     }
@@ -49,17 +55,17 @@ fn gen_rhs(l: SocWrLayout, bytes: &[u8], block: usize, g: usize) -> f64
     requires { ⌜ Laid l (now bytes) ⌝ }
     requires { ⌜ GenBlock block ⌝ }
     requires { ⌜ g < l .k ⌝ }
-    ensures { λ r. ⌜ r ≡ sideAt l (now (bytes .entry)) block g ⌝ }
+    ensures { λ r. ⌜ r ≡ b (netOf l (now (bytes .entry))) (rowOf (key block g 0)) ⌝ }
 {
-    if block == 8 {
+    if block == blocks::PGUB {
         let s = upper_active(l, bytes, g);
         return s.rhs;
     }
-    if block == 9 {
+    if block == blocks::PGLB {
         let s = lower_active(l, bytes, g);
         return s.rhs;
     }
-    if block == 10 {
+    if block == blocks::QGUB {
         let s = upper_reactive(l, bytes, g);
         return s.rhs;
     }
@@ -71,47 +77,51 @@ fn gen_rhs(l: SocWrLayout, bytes: &[u8], block: usize, g: usize) -> f64
 fn angle_rhs(l: SocWrLayout, bytes: &[u8], e: usize) -> f64
     requires { ⌜ Laid l (now bytes) ⌝ }
     requires { ⌜ e < l .m ⌝ }
-    ensures { λ r. ⌜ r ≡ sideAt l (now (bytes .entry)) 12 e ⌝ }
-    ensures { λ r. ⌜ r ≡ sideAt l (now (bytes .entry)) 13 e ⌝ }
+    ensures { λ r. ⌜ r ≡ sideAt l (now (bytes .entry)) Angub e ⌝ }
+    ensures { λ r. ⌜ r ≡ sideAt l (now (bytes .entry)) Anglb e ⌝ }
 {
     let s = angle(l, bytes, e);
     s.rhs
 }
 
-// pbal and qbal at the front; wub and wlb from voltage on.
-fn fill_buses(out: &mut [f64], voltage: usize, l: SocWrLayout, bytes: &[u8])
+// pbal and qbal, wub and wlb.
+fn fill_buses(out: &mut [f64], l: SocWrLayout, bytes: &[u8])
     requires { ⌜ Laid l (now bytes) ⌝ }
-    requires { ⌜ (2 * l .n ≤ voltage) × (voltage + 2 * l .n ≤ length (now out)) ⌝ }
-    ensures { λ _. ⌜ FilledTwice (balanceSides l (now (bytes .entry))) (voltageSides l (now (bytes .entry))) (now (out .entry)) 0 voltage (now (out .exit)) ⌝ }
+    requires { ⌜ nconOf l ≤ length (now out) ⌝ }
+    ensures { λ _. ⌜ FilledTwice (balanceSides l (now (bytes .entry))) (voltageSides l (now (bytes .entry))) (now (out .entry)) (layoutRow l (Pbal 0)) (layoutRow l (Wub 0)) (now (out .exit)) ⌝ }
 {
     let n = l.n;
-    let lower = voltage + n;
+    let pbal = l.pbal_row(0) as usize;
+    let qbal = l.qbal_row(0) as usize;
+    let wub = l.wub_row(0) as usize;
+    let wlb = l.wlb_row(0) as usize;
     let mut i = 0;
     while i < n {
-        out[0 + i] = bus_rhs(l, bytes, 0, i);
-        out[n + i] = bus_rhs(l, bytes, 1, i);
-        out[voltage + i] = bus_rhs(l, bytes, 6, i);
-        out[lower + i] = bus_rhs(l, bytes, 7, i);
+        out[pbal + i] = bus_rhs(l, bytes, blocks::PBAL, i);
+        out[qbal + i] = bus_rhs(l, bytes, blocks::QBAL, i);
+        out[wub + i] = bus_rhs(l, bytes, blocks::WUB, i);
+        out[wlb + i] = bus_rhs(l, bytes, blocks::WLB, i);
         i += 1;
     }
 }
 
 // pgub, pglb, qgub and qglb.
-fn fill_capabilities(out: &mut [f64], at: usize, l: SocWrLayout, bytes: &[u8])
+fn fill_capabilities(out: &mut [f64], l: SocWrLayout, bytes: &[u8])
     requires { ⌜ Laid l (now bytes) ⌝ }
-    requires { ⌜ at + 4 * l .k ≤ length (now out) ⌝ }
-    ensures { λ _. ⌜ Filled (generatorSides l (now (bytes .entry))) (now (out .entry)) at (now (out .exit)) ⌝ }
+    requires { ⌜ nconOf l ≤ length (now out) ⌝ }
+    ensures { λ _. ⌜ Filled (generatorSides l (now (bytes .entry))) (now (out .entry)) (layoutRow l (Pgub 0)) (now (out .exit)) ⌝ }
 {
     let k = l.k;
-    let a1 = at + k;
-    let a2 = a1 + k;
-    let a3 = a2 + k;
+    let pgub = l.pgub_row(0) as usize;
+    let pglb = l.pglb_row(0) as usize;
+    let qgub = l.qgub_row(0) as usize;
+    let qglb = l.qglb_row(0) as usize;
     let mut g = 0;
     while g < k {
-        out[at + g] = gen_rhs(l, bytes, 8, g);
-        out[a1 + g] = gen_rhs(l, bytes, 9, g);
-        out[a2 + g] = gen_rhs(l, bytes, 10, g);
-        out[a3 + g] = gen_rhs(l, bytes, 11, g);
+        out[pgub + g] = gen_rhs(l, bytes, blocks::PGUB, g);
+        out[pglb + g] = gen_rhs(l, bytes, blocks::PGLB, g);
+        out[qgub + g] = gen_rhs(l, bytes, blocks::QGUB, g);
+        out[qglb + g] = gen_rhs(l, bytes, blocks::QGLB, g);
         g += 1;
     }
 }
@@ -165,74 +175,72 @@ fn put_rating(out: &mut [f64], at: usize, on: bool, v: f64) -> usize
     at
 }
 
-// angub and anglb from angle on; the thermal rows from thermal on.
-fn fill_branches(out: &mut [f64], angle: usize, thermal: usize, l: SocWrLayout, bytes: &[u8])
+// angub and anglb, and the thermal rows.
+fn fill_branches(out: &mut [f64], l: SocWrLayout, bytes: &[u8])
     requires { ⌜ Laid l (now bytes) ⌝ }
-    requires { ⌜ (angle + 2 * l .m ≤ thermal) × (thermal + 6 * l .t ≤ length (now out)) ⌝ }
-    ensures { λ _. ⌜ FilledTwice (angleSides l (now (bytes .entry))) (each (l .m) (ratingsAt l (now (bytes .entry)))) (now (out .entry)) angle thermal (now (out .exit)) ⌝ }
+    requires { ⌜ nconOf l ≤ length (now out) ⌝ }
+    ensures { λ _. ⌜ FilledTwice (angleSides l (now (bytes .entry))) (each (l .m) (ratingsAt l (now (bytes .entry)))) (now (out .entry)) (layoutRow l (Angub 0)) (layoutRow l (Thermal 0 0)) (now (out .exit)) ⌝ }
 {
     let m = l.m;
-    let lower = angle + m;
-    let mut next = thermal;
+    let angub = l.angub_row(0) as usize;
+    let anglb = l.anglb_row(0) as usize;
+    let mut next = l.thermal_row(0, 0) as usize;
     let mut e = 0;
     while e < m {
         let r = l.n + e;
         let v = angle_rhs(l, bytes, e);
         let on = records::inner::thermal_limit_active(bytes, r);
         let rate_a = records::inner::rate_a(bytes, r);
-        out[angle + e] = v;
-        out[lower + e] = v;
+        out[angub + e] = v;
+        out[anglb + e] = v;
         next = put_rating(out, next, on, rate_a);
         e += 1;
     }
 }
 
-// All of b.
+// All of b. The Ohm rows and the branches' cones have zeros.
 pub fn fill_b(out: &mut [f64], l: SocWrLayout, bytes: &[u8])
     requires { ⌜ Laid l (now bytes) ⌝ }
     requires { ⌜ nconOf l ≤ length (now out) ⌝ }
     ensures { λ _. ⌜ now (out .exit) ≡ overlay (rightSide (netOf l (now (bytes .entry)))) (now (out .entry)) ⌝ }
 {
-    let ohm = 2 * l.n;
     let zeros = 4 * l.m;
-    let voltage = ohm + zeros;
-    let capability = voltage + 2 * l.n;
-    let angle = capability + 4 * l.k;
-    let cost = angle + 2 * l.m;
-    let jabr = cost + l.s;
-    let thermal = jabr + zeros;
     let segments = l.n + l.m + l.k;
+    let ohm = l.ohm_pf_row(0) as usize;
+    let cost = l.segment_row(0) as usize;
+    let jabr = l.jabr_row(0, 0) as usize;
     fill_all(out, ohm, zeros, 0.0);
-    fill_buses(out, voltage, l, bytes);
-    fill_capabilities(out, capability, l, bytes);
+    fill_buses(out, l, bytes);
+    fill_capabilities(out, l, bytes);
     fill_intercepts(out, cost, bytes, segments, l.s);
     fill_all(out, jabr, zeros, 0.0);
-    fill_branches(out, angle, thermal, l, bytes);
+    fill_branches(out, l, bytes);
 }
 
 // 0 with the linear cost added, at each pg.
 fn fill_costs(out: &mut [f64], l: SocWrLayout, bytes: &[u8])
     requires { ⌜ Laid l (now bytes) ⌝ }
-    requires { ⌜ l .k ≤ length (now out) ⌝ }
-    ensures { λ _. ⌜ Filled (listed (l .k) (linearCost l (now (bytes .entry)))) (now (out .entry)) 0 (now (out .exit)) ⌝ }
+    requires { ⌜ nvarOf l ≤ length (now out) ⌝ }
+    ensures { λ _. ⌜ Filled (listed (l .k) (linearCost l (now (bytes .entry)))) (now (out .entry)) (layoutColumn l (Pg 0)) (now (out .exit)) ⌝ }
 {
     let k = l.k;
+    let pg = l.pg_column(0) as usize;
     let mut g = 0;
     while g < k {
-        out[0 + g] = 0.0 + records::inner::cl(bytes, l.n + l.m + g);
+        out[pg + g] = 0.0 + records::inner::cl(bytes, l.n + l.m + g);
         g += 1;
     }
 }
 
-// All of q.
+// All of q. The columns from qg to the first of cost have zeros.
 pub fn fill_q(out: &mut [f64], l: SocWrLayout, bytes: &[u8])
     requires { ⌜ Laid l (now bytes) ⌝ }
     requires { ⌜ nvarOf l ≤ length (now out) ⌝ }
     ensures { λ _. ⌜ now (out .exit) ≡ overlay (linear (netOf l (now (bytes .entry)))) (now (out .entry)) ⌝ }
 {
-    let zeros = l.k + l.n + 6 * l.m;
-    let curves = l.k + zeros;
+    let qg = l.qg_column(0) as usize;
+    let cost = l.cost_column(0) as usize;
     fill_costs(out, l, bytes);
-    fill_all(out, l.k, zeros, 0.0);
-    fill_all(out, curves, l.cost_columns, 0.0 + 1.0);
+    fill_all(out, qg, cost - qg, 0.0);
+    fill_all(out, cost, l.cost_columns, 0.0 + 1.0);
 }

@@ -11,7 +11,9 @@ ghost use Rattle.matrix.specs.Lists.{quadraticMatrix};
 ghost use Rattle.cells.specs.Filled.{Filled};
 ghost use Rattle.cells.specs.Columns.{Columns, Whole};
 ghost use Rattle.sides.specs.Quadratic.{quadCells, quadCount};
+ghost use Rattle.numbering.specs.Layout.{layoutColumn};
 ghost use Rattle.numbering.specs.Laid.{netOf, Laid};
+ghost use Rattle.numbering.specs.declared.ColumnName.the-variants.{Pg};
 
 // How many entries P has.
 pub fn count_p(l: SocWrLayout, bytes: &[u8]) -> usize
@@ -37,16 +39,17 @@ fn put_quads(
     bytes: &[u8],
 ) -> usize
     requires { ⌜ Laid l (now bytes) ⌝ }
-    ensures { λ x. ⌜ Columns (listed (l .k) (quadCells l (now (bytes .entry)))) 0 (now (starts .entry)) (cellOut (now (rows .entry)) (now (vals .entry)) 0) (now (starts .exit)) (cellOut (now (rows .exit)) (now (vals .exit)) x) ⌝ }
+    ensures { λ x. ⌜ Columns (listed (l .k) (quadCells l (now (bytes .entry)))) (layoutColumn l (Pg 0)) (now (starts .entry)) (cellOut (now (rows .entry)) (now (vals .entry)) 0) (now (starts .exit)) (cellOut (now (rows .exit)) (now (vals .exit)) x) ⌝ }
     ensures { λ x. ⌜ x ≤ l .k ⌝ }
 {
     let k = l.k;
+    let pg = l.pg_column(0) as usize;
     let mut next = 0;
     let mut g = 0;
     while g < k {
         let v = 2.0 * records::inner::cq(bytes, l.n + l.m + g);
-        next = put_nonzero(rows, vals, next, g as u32, v);
-        store_u32(starts, g + 1, next as u32);
+        next = put_nonzero(rows, vals, next, (pg + g) as u32, v);
+        store_u32(starts, pg + g + 1, next as u32);
         g += 1;
     }
     next
@@ -75,10 +78,10 @@ pub fn fill_p(
     requires { ⌜ Laid l (now bytes) ⌝ }
     ensures { λ x. ⌜ Whole (quadraticMatrix (netOf l (now (bytes .entry)))) (now (starts .entry)) (now (rows .entry)) (now (vals .entry)) (now (starts .exit)) (now (rows .exit)) (now (vals .exit)) x ⌝ }
 {
-    let k = l.k;
-    let others = l.k + l.n + 6 * l.m + l.cost_columns;
+    let qg = l.qg_column(0) as usize;
+    let others = l.column_count() as usize - qg;
     store_u32(starts, 0, 0);
     let next = put_quads(starts, rows, vals, l, bytes);
-    put_empty(starts, k, others, next as u32);
+    put_empty(starts, qg, others, next as u32);
     next
 }

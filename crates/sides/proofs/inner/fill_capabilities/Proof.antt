@@ -1,55 +1,63 @@
--- `sides::inner::fill_capabilities` meets its contract. Assumes nothing.
+-- `sides::inner::fill_capabilities` meets its contract: each turn writes one element of each of the four blocks, which follow each other. Assumes nothing.
 use borrow.Author.Needs.{needs}
 use Prim.Native.Nat.{_≤_, _+_, _-_}
 use mathlib.Core.Path.{_≡_, refl}
 use mathlib.Core.List.{[], _∷_}
 use native.Mathlib.Omega.{arith}
 use denote.Ref.{now}
-use lib.ListN.{length-set}
+use lib.ListN.{length, length-set}
+use Rattle.numbering.specs.declared.RowName.the-variants.{Pgub, Pglb, Qgub, Qglb}
+use Rattle.numbering.proofs.Numbers.{layout-row}
 use Rattle.sides.specs.Sides.{pgub, pglb, qgub, qglb, sideAt, generatorSides}
 use Rattle.sides.proofs.Across.{Across, across-none, across-four, across-length, filled-four}
+use Rattle.sides.proofs.RightSide.{generators-end}
 use Rattle.sides.proofs.inner.fill_capabilities.Statement.{statement}
 use Rattle.sides.proofs.inner.fill_capabilities.Tie as tie
 
 abbrev Inv-loop : tie.InvT-loop
-Inv-loop out₀ at l bytes k a1 a2 a3 g₀ out g =
-    (g ≤ k) × (k ≡ l .k) × ((a1 ≡ at + k) × (a2 ≡ a1 + k) × (a3 ≡ a2 + k)) × Across k g (sideAt l bytes 8 ∷ sideAt l bytes 9 ∷ sideAt l bytes 10 ∷ sideAt l bytes 11 ∷ []) at out₀ out
+Inv-loop out₀ l bytes k p q u v g₀ out g =
+    (g ≤ k) × (k ≡ l .k) × ((q ≡ p + k) × (u ≡ q + k) × (v ≡ u + k) × (v + k ≤ length out₀))
+    × Across k g (sideAt l bytes Pgub ∷ sideAt l bytes Pglb ∷ sideAt l bytes Qgub ∷ sideAt l bytes Qglb ∷ []) p out₀ out
 
 abbrev μ-loop : tie.MeasureT-loop
-μ-loop out₀ at l bytes k a1 a2 a3 g₀ out g = k - g
+μ-loop out₀ l bytes k p q u v g₀ out g = k - g
 
 loop-holds : tie.Need-loop-holds Inv-loop μ-loop
-loop-holds c = (omega arith, refl, (refl, refl, refl), across-none _ _)
+loop-holds c =
+    let l = c .before .before .before .before .before .before .args .l in
+    (omega arith, refl, (omega (arith, layout-row l (Pgub 0), layout-row l (Pglb 0)), omega (arith, layout-row l (Pglb 0), layout-row l (Qgub 0)), omega (arith, layout-row l (Qgub 0), layout-row l (Qglb 0)), omega (arith, generators-end l)), across-none _ _)
 
 gen-rhs-requires : tie.Need-gen-rhs-requires Inv-loop μ-loop
-gen-rhs-requires c κs = (c .before .before .before .before .pre .0, (pgub, omega arith))
+gen-rhs-requires c κs = (c .before .before .before .before .before .before .before .before .pre .0, (pgub, omega arith))
 
 slice-write-out : tie.Need-slice-write-out Inv-loop μ-loop
 slice-write-out c = omega (arith, across-length (c .before .before .loop .inv .3))
 
 gen-rhs-requires-2 : tie.Need-gen-rhs-requires-2 Inv-loop μ-loop
-gen-rhs-requires-2 c κs = (c .before .before .before .before .before .pre .0, (pglb, omega arith))
+gen-rhs-requires-2 c κs = (c .before .before .before .before .before .before .before .before .before .pre .0, (pglb, omega arith))
 
 slice-write-out-2 : tie.Need-slice-write-out-2 Inv-loop μ-loop
 slice-write-out-2 c = simp length-set (omega (arith, across-length (c .before .before .before .loop .inv .3)))
 
 gen-rhs-requires-3 : tie.Need-gen-rhs-requires-3 Inv-loop μ-loop
-gen-rhs-requires-3 c κs = (c .before .before .before .before .before .before .pre .0, (qgub, omega arith))
+gen-rhs-requires-3 c κs = (c .before .before .before .before .before .before .before .before .before .before .pre .0, (qgub, omega arith))
 
 slice-write-out-3 : tie.Need-slice-write-out-3 Inv-loop μ-loop
 slice-write-out-3 c = simp length-set (omega (arith, across-length (c .before .before .before .before .loop .inv .3)))
 
 gen-rhs-requires-4 : tie.Need-gen-rhs-requires-4 Inv-loop μ-loop
-gen-rhs-requires-4 c κs = (c .before .before .before .before .before .before .before .pre .0, (qglb, omega arith))
+gen-rhs-requires-4 c κs = (c .before .before .before .before .before .before .before .before .before .before .before .pre .0, (qglb, omega arith))
 
 slice-write-out-4 : tie.Need-slice-write-out-4 Inv-loop μ-loop
 slice-write-out-4 c = simp length-set (omega (arith, across-length (c .before .before .before .before .before .loop .inv .3)))
 
 loop-again : tie.Need-loop-again Inv-loop μ-loop
+unfolding sideAt
 loop-again c =
-    let a = c .before .before .before .before .before .before .before .before .args in
+    let a = c .before .before .before .before .before .before .before .before .before .before .before .before .args in
     let o = c .before .before .before .before .before .loop .inv in
-    (omega arith, o .1, o .2, across-four (sideAt (a .l) (now (a .bytes)) 8) (sideAt (a .l) (now (a .bytes)) 9) (sideAt (a .l) (now (a .bytes)) 10) (sideAt (a .l) (now (a .bytes)) 11) (o .3) (omega arith) (o .2 .0) (o .2 .1) (o .2 .2) (c .before .before .before .gen-rhs .ensures) (c .before .before .gen-rhs2 .ensures) (c .before .gen-rhs3 .ensures) (c .gen-rhs4 .ensures))
+    let f = sideAt (a .l) (now (a .bytes)) in
+    (omega arith, o .1, o .2, across-four (f Pgub) (f Pglb) (f Qgub) (f Qglb) (o .3) (omega arith) (o .2 .0) (o .2 .1) (o .2 .2) (c .before .before .before .gen-rhs .ensures) (c .before .before .gen-rhs2 .ensures) (c .before .gen-rhs3 .ensures) (c .gen-rhs4 .ensures))
 
 same-length : tie.Need-same-length Inv-loop μ-loop
 same-length c = across-length (c .before .loop .inv .3)
@@ -57,9 +65,10 @@ same-length c = across-length (c .before .loop .inv .3)
 returns : tie.Need-returns Inv-loop μ-loop
 unfolding generatorSides
 returns c =
-    let a = c .before .before .before .before .args in
-    let o = c .before .loop in
-    filled-four (sideAt (a .l) (now (a .bytes)) 8) (sideAt (a .l) (now (a .bytes)) 9) (sideAt (a .l) (now (a .bytes)) 10) (sideAt (a .l) (now (a .bytes)) 11) (omega arith) (rw (o .inv .1) at (o .inv .3))
+    let a = c .before .before .before .before .before .before .before .before .args in
+    let o = c .before .loop .inv in
+    let f = sideAt (a .l) (now (a .bytes)) in
+    rw (← c .before .before .before .before .before .pgub-row .ensures) (filled-four (f Pgub) (f Pglb) (f Qgub) (f Qglb) (omega arith) (rw (o .1) at (o .3)))
 
 pub fill-capabilities-spec : {M : Type 1} → statement M
-fill-capabilities-spec = tie.close (tie.spec Inv-loop μ-loop (λ c. search needs) (λ c. search needs) (λ c. search needs) loop-holds gen-rhs-requires (λ c. search needs) (λ c. search needs) slice-write-out gen-rhs-requires-2 (λ c. search needs) (λ c. search needs) slice-write-out-2 gen-rhs-requires-3 (λ c. search needs) (λ c. search needs) slice-write-out-3 gen-rhs-requires-4 (λ c. search needs) (λ c. search needs) slice-write-out-4 (λ c. search needs) (λ c. search needs) loop-again same-length returns)
+fill-capabilities-spec = tie.close (tie.spec Inv-loop μ-loop (λ c κs. search needs) (λ c. search needs) (λ c κs. search needs) (λ c. search needs) (λ c κs. search needs) (λ c. search needs) (λ c κs. search needs) (λ c. search needs) loop-holds gen-rhs-requires (λ c. search needs) (λ c. search needs) slice-write-out gen-rhs-requires-2 (λ c. search needs) (λ c. search needs) slice-write-out-2 gen-rhs-requires-3 (λ c. search needs) (λ c. search needs) slice-write-out-3 gen-rhs-requires-4 (λ c. search needs) (λ c. search needs) slice-write-out-4 (λ c. search needs) (λ c. search needs) loop-again same-length returns)
