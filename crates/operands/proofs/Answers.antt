@@ -11,6 +11,7 @@ use Rattle.lists.proofs.UpTo.{upTo-same}
 use Rattle.refusals.specs.declared.Checked.the-variants.{Accepted}
 use Rattle.refusals.proofs.Laws.{orElse-accepted, test-held}
 use Rattle.records.specs.AcNetwork.{AcNetwork}
+use Rattle.numbering.proofs.Numbers.{numbers}
 use Rattle.interface.specs.declared.Power.the-variants.{Active, Reactive}
 use Rattle.interface.specs.declared.End.the-variants.{From, To}
 use Rattle.interface.specs.declared.VoltageKind.{VoltageKind}
@@ -36,24 +37,21 @@ module _ (n m k : ℕ) (o : Operand) (starts rows weights elements : ℕ) where
 -- ---- the items of an operand stand one after the other
 module _ (G : AcNetwork Float) where
   pub rows-count : (o : Operand) → hasOperand o ≡ true → (j : ℕ) → selectorRow G o 0 + j ≡ selectorRow G o j
-  rows-count (Price Active) h j = omega arith
-  rows-count (Price Reactive) h j = omega arith
-  rows-count (Dispatch Active) h j = omega arith
-  rows-count (Dispatch Reactive) h j = omega arith
-  rows-count (Flow Active From) h j = omega arith
-  rows-count (Flow Active To) h j = omega arith
-  rows-count (Flow Reactive From) h j = omega arith
-  rows-count (Flow Reactive To) h j = omega arith
+  rows-count (Price Active) h j = simp numbers (omega arith)
+  rows-count (Price Reactive) h j = simp numbers (omega arith)
+  rows-count (Dispatch Active) h j = simp numbers (omega arith)
+  rows-count (Dispatch Reactive) h j = simp numbers (omega arith)
+  rows-count (Flow Active From) h j = simp numbers (omega arith)
+  rows-count (Flow Active To) h j = simp numbers (omega arith)
+  rows-count (Flow Reactive From) h j = simp numbers (omega arith)
+  rows-count (Flow Reactive To) h j = simp numbers (omega arith)
   rows-count (Voltage Magnitude) h j = absurd (subst T (sym h) tt)
   rows-count (Voltage Angle) h j = absurd (subst T (sym h) tt)
-  rows-count (Voltage Squared) h j = omega arith
-  rows-count (Voltage ProductReal) h j = omega arith
-  rows-count (Voltage ProductImag) h j = omega arith
+  rows-count (Voltage Squared) h j = simp numbers (omega arith)
+  rows-count (Voltage ProductReal) h j = simp numbers (omega arith)
+  rows-count (Voltage ProductImag) h j = simp numbers (omega arith)
 
   pub rows-listed : (o : Operand) → hasOperand o ≡ true → (items : ℕ) → items ≡ operandLen (G .n) (G .m) (G .k) o → listed items (λ j. selectorRow G o 0 + j) ≡ selectorRows G o
   unfolding selectorRows
   rows-listed o h items e = rw e (upTo-same _++_ [] _ _ _ (λ j l. ap (λ (x : ℕ). x ∷ []) (rows-count o h j)))
 
-  pub rows-none : (o : Operand) (ys : List ℕ) → operandLen (G .n) (G .m) (G .k) o ≡ 0 → ys ≡ overlay (selectorRows G o) ys
-  unfolding selectorRows overlay upTo
-  rows-none o ys e = rw e

@@ -7,7 +7,9 @@ use Rattle.numbering.specs.Numbering.{columnNumber}
 use Rattle.numbering.specs.Layout.{layoutColumn}
 use Rattle.numbering.specs.Laid.{netOf, Laid}
 use Rattle.numbering.specs.declared.SocWrLayout.{SocWrLayout}
-use Rattle.numbering.proofs.Laid.{laid-nvar}
+use Rattle.numbering.specs.declared.ColumnName.the-variants.{Pg, Qg, Pf, Pt, Qf, Qt}
+use Rattle.numbering.proofs.Numbers.{numbers}
+use Rattle.numbering.proofs.Laid.{curves-are, laid-column}
 use Rattle.interface.specs.declared.Power.{Power}
 use Rattle.interface.specs.declared.Power.the-variants.{Active, Reactive}
 use Rattle.interface.specs.declared.End.{End}
@@ -18,32 +20,32 @@ use Rattle.interface.specs.declared.Operand.the-variants.{Price, Dispatch, Flow
 use Rattle.elements.specs.Lengths.{operandLen}
 use Rattle.operands.specs.Selector.{dispatchColumn, flowOf, selectorRow}
 
-module _ (l : SocWrLayout) (b : List ℕ) where
+module _ (l : SocWrLayout) (b : List ℕ) (h : Laid l b) where
   pub dispatch-number : (power : Power) (g : ℕ) → layoutColumn l (dispatchColumn power g) ≡ columnNumber (netOf l b) (dispatchColumn power g)
-  dispatch-number Active g = refl
-  dispatch-number Reactive g = refl
+  dispatch-number Active g = laid-column l b h (Pg g) refl
+  dispatch-number Reactive g = laid-column l b h (Qg g) refl
 
   pub flow-number : (power : Power) (end : End) (e : ℕ) → layoutColumn l (flowOf power end e) ≡ columnNumber (netOf l b) (flowOf power end e)
-  flow-number Active From e = refl
-  flow-number Active To e = refl
-  flow-number Reactive From e = refl
-  flow-number Reactive To e = refl
+  flow-number Active From e = laid-column l b h (Pf e) refl
+  flow-number Active To e = laid-column l b h (Pt e) refl
+  flow-number Reactive From e = laid-column l b h (Qf e) refl
+  flow-number Reactive To e = laid-column l b h (Qt e) refl
 
   -- the first row of an operand, and how many it has
-  pub row-few : Laid l b → (o : Operand) → selectorRow (netOf l b) o 0 ≤ 131072
-  row-few h (Price Active) = omega (arith, laid-nvar l b h, h .range)
-  row-few h (Price Reactive) = omega (arith, laid-nvar l b h, h .range)
-  row-few h (Dispatch Active) = omega (arith, h .range)
-  row-few h (Dispatch Reactive) = omega (arith, h .range)
-  row-few h (Flow Active From) = omega (arith, h .range)
-  row-few h (Flow Active To) = omega (arith, h .range)
-  row-few h (Flow Reactive From) = omega (arith, h .range)
-  row-few h (Flow Reactive To) = omega (arith, h .range)
-  row-few h (Voltage Magnitude) = omega arith
-  row-few h (Voltage Angle) = omega arith
-  row-few h (Voltage Squared) = omega (arith, h .range)
-  row-few h (Voltage ProductReal) = omega (arith, h .range)
-  row-few h (Voltage ProductImag) = omega (arith, h .range)
+  pub row-few : (o : Operand) → selectorRow (netOf l b) o 0 ≤ 131072
+  row-few (Price Active) = simp numbers (omega (arith, curves-are l b h, h .range))
+  row-few (Price Reactive) = simp numbers (omega (arith, curves-are l b h, h .range))
+  row-few (Dispatch Active) = simp numbers (omega (arith, h .range))
+  row-few (Dispatch Reactive) = simp numbers (omega (arith, h .range))
+  row-few (Flow Active From) = simp numbers (omega (arith, h .range))
+  row-few (Flow Active To) = simp numbers (omega (arith, h .range))
+  row-few (Flow Reactive From) = simp numbers (omega (arith, h .range))
+  row-few (Flow Reactive To) = simp numbers (omega (arith, h .range))
+  row-few (Voltage Magnitude) = omega arith
+  row-few (Voltage Angle) = omega arith
+  row-few (Voltage Squared) = simp numbers (omega (arith, h .range))
+  row-few (Voltage ProductReal) = simp numbers (omega (arith, h .range))
+  row-few (Voltage ProductImag) = simp numbers (omega (arith, h .range))
 
 pub items-few : (n m k : ℕ) (o : Operand) → n ≤ 4096 → m ≤ 8192 → k ≤ 4096 → operandLen n m k o ≤ 8192
 items-few n m k (Price power) a b c = omega arith

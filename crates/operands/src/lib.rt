@@ -3,8 +3,7 @@ use inner::selector::selector_of;
 use interface::Operand;
 use interface::Selected;
 use interface::inner::selected_if;
-use numbering::inner::layout;
-use records::check_records;
+use numbering::layout::check_layout;
 use refusals::is_refused;
 ghost use mathlib.Core.Path.{_≡_};
 ghost use lib.ListN.{length};
@@ -35,10 +34,18 @@ pub fn operand_selector(
     ensures { λ _. ⌜ now (weights .exit) ≡ leftIn (selectorCheck n m k s (now (bytes .entry)) operand (length (now (starts .entry))) (length (now (rows .entry))) (length (now (weights .entry))) (length (now (elements .entry)))) (unitWeights (operandLen n m k operand)) (now (weights .entry)) ⌝ }
     ensures { λ _. ⌜ now (elements .exit) ≡ leftIn (selectorCheck n m k s (now (bytes .entry)) operand (length (now (starts .entry))) (length (now (rows .entry))) (length (now (weights .entry))) (length (now (elements .entry)))) (selectorElements (operandLen n m k operand)) (now (elements .entry)) ⌝ }
 {
-    let check = check_records(n, m, k, s, bytes);
+    let checked = check_layout(n, m, k, s, bytes, 0);
+    let check = checked.check;
     if is_refused(check) {
         return selected_if(check, 0, 0.0);
     }
-    let l = layout(n, m, k, s, bytes);
-    selector_of(l, bytes, operand, starts, rows, weights, elements)
+    selector_of(
+        checked.layout,
+        bytes,
+        operand,
+        starts,
+        rows,
+        weights,
+        elements,
+    )
 }

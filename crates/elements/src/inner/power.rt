@@ -2,13 +2,13 @@
 use interface::Power;
 use numbering::SocWrLayout;
 ghost use mathlib.Core.Path.{_≡_};
-ghost use Prim.Native.Nat.{_<_};
+ghost use Prim.Native.Nat.{_≤_};
 ghost use Rattle.numbering.specs.Layout.{InRange, layoutRow};
 ghost use Rattle.elements.specs.Balance.{priceRow};
 
 pub fn balance_row(l: SocWrLayout, power: Power, i: usize) -> u32
     requires { ⌜ InRange l ⌝ }
-    requires { ⌜ i < l .n ⌝ }
+    requires { ⌜ i ≤ l .n ⌝ }
     ensures { λ r. ⌜ r ≡ layoutRow l (priceRow power i) ⌝ }
 {
     match power {

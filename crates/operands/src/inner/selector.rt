@@ -19,14 +19,14 @@ use refusals::or_else;
 use refusals::refuse_unless;
 ghost use mathlib.Core.Path.{_≡_};
 ghost use mathlib.Core.Bool.{true};
-ghost use Prim.Native.Nat.{_+_, _≤_, _<_};
+ghost use Prim.Native.Nat.{_+_, _≤_};
 ghost use lib.ListN.{length};
 ghost use Rattle.lists.specs.UpTo.{listed, overlay};
 ghost use Rattle.refusals.specs.Refusals.{leftIn};
 ghost use Rattle.interface.specs.Selectors.{unitStarts, unitWeights, selectedIf};
 ghost use Rattle.numbering.specs.Layout.{InRange, layoutColumn};
 ghost use Rattle.numbering.specs.Laid.{netOf, Laid};
-ghost use Rattle.elements.specs.Lengths.{hasOperand, operandLen, voltageLen};
+ghost use Rattle.elements.specs.Lengths.{hasOperand, operandLen};
 ghost use Rattle.operands.specs.Selector.{dispatchColumn, flowOf, voltageAt, selectorRow, selectorRows, selectorElements, selectorSign, operandCause};
 
 // base, base + 1, .., n of them.
@@ -43,7 +43,6 @@ fn count_from(d: &mut [u32], n: usize, base: u32)
 
 fn price_first(l: SocWrLayout, bytes: &[u8], power: Power) -> u32
     requires { ⌜ Laid l (now bytes) ⌝ }
-    requires { ⌜ 0 < l .n ⌝ }
     ensures { λ r. ⌜ r ≡ selectorRow (netOf l (now (bytes .entry))) (Operand.Price power) 0 ⌝ }
 {
     l.column_count() + balance_row(l, power, 0)
@@ -51,7 +50,6 @@ fn price_first(l: SocWrLayout, bytes: &[u8], power: Power) -> u32
 
 fn dispatch_first(l: SocWrLayout, power: Power) -> u32
     requires { ⌜ InRange l ⌝ }
-    requires { ⌜ 0 < l .k ⌝ }
     ensures { λ r. ⌜ r ≡ layoutColumn l (dispatchColumn power 0) ⌝ }
 {
     match power {
@@ -62,7 +60,6 @@ fn dispatch_first(l: SocWrLayout, power: Power) -> u32
 
 fn active_first(l: SocWrLayout, end: End) -> u32
     requires { ⌜ InRange l ⌝ }
-    requires { ⌜ 0 < l .m ⌝ }
     ensures { λ r. ⌜ r ≡ layoutColumn l (flowOf Power.Active end 0) ⌝ }
 {
     match end {
@@ -73,7 +70,6 @@ fn active_first(l: SocWrLayout, end: End) -> u32
 
 fn reactive_first(l: SocWrLayout, end: End) -> u32
     requires { ⌜ InRange l ⌝ }
-    requires { ⌜ 0 < l .m ⌝ }
     ensures { λ r. ⌜ r ≡ layoutColumn l (flowOf Power.Reactive end 0) ⌝ }
 {
     match end {
@@ -84,7 +80,6 @@ fn reactive_first(l: SocWrLayout, end: End) -> u32
 
 fn flow_first(l: SocWrLayout, power: Power, end: End) -> u32
     requires { ⌜ InRange l ⌝ }
-    requires { ⌜ 0 < l .m ⌝ }
     ensures { λ r. ⌜ r ≡ layoutColumn l (flowOf power end 0) ⌝ }
 {
     match power {
@@ -95,7 +90,6 @@ fn flow_first(l: SocWrLayout, power: Power, end: End) -> u32
 
 fn voltage_first(l: SocWrLayout, bytes: &[u8], kind: VoltageKind) -> u32
     requires { ⌜ Laid l (now bytes) ⌝ }
-    requires { ⌜ 0 < voltageLen (l .n) (l .m) kind ⌝ }
     ensures { λ r. ⌜ r ≡ voltageAt (netOf l (now (bytes .entry))) kind 0 ⌝ }
 {
     match kind {
@@ -107,10 +101,9 @@ fn voltage_first(l: SocWrLayout, bytes: &[u8], kind: VoltageKind) -> u32
     }
 }
 
-// The row of the first item.
+// The row of the first item; where there is none, of the place where it would stand.
 fn first_row(l: SocWrLayout, bytes: &[u8], o: Operand) -> u32
     requires { ⌜ Laid l (now bytes) ⌝ }
-    requires { ⌜ 0 < operandLen (l .n) (l .m) (l .k) o ⌝ }
     ensures { λ r. ⌜ r ≡ selectorRow (netOf l (now (bytes .entry))) o 0 ⌝ }
 {
     match o {
@@ -138,9 +131,6 @@ fn write_rows(l: SocWrLayout, bytes: &[u8], o: Operand, rows: &mut [u32])
     ensures { λ _. ⌜ now (rows .exit) ≡ overlay (selectorRows (netOf l (now (bytes .entry))) o) (now (rows .entry)) ⌝ }
 {
     let items = operand_count(l.n, l.m, l.k, o);
-    if items == 0 {
-        return;
-    }
     count_from(rows, items, first_row(l, bytes, o));
 }
 

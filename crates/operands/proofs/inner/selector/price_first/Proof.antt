@@ -1,4 +1,4 @@
--- `operands::inner::selector::price_first` meets its contract. Assumes nothing.
+-- `operands::inner::selector::price_first` meets its contract: the layout's counts are the network's, and the sum is a row of the KKT matrix. Assumes nothing.
 use borrow.Author.Needs.{needs}
 use mathlib.Core.Path.{_≡_, ap₂, _∙_}
 use Prim.Native.Nat.{_+_}
@@ -14,12 +14,19 @@ use Rattle.numbering.proofs.Laid.{laid-nvar}
 
 add-result : tie.Need-add-result
 add-result c =
-    let a = c .before .before .before .args in
-    let e : c .before .column-count .result + c .balance-row .result ≡ selectorRow (netOf (a .l) (a .bytes .now)) (Price (a .power)) 0 = ap₂ _+_ (c .before .column-count .ensures ∙ laid-nvar (a .l) (a .bytes .now) (c .before .before .before .pre .0)) (c .balance-row .ensures ∙ balance-number (a .l) (a .bytes .now) (a .power) 0) in
-    omega (arith, e, row-few (a .l) (a .bytes .now) (c .before .before .before .pre .0) (Price (a .power)))
+    let o = c .before .before .before in
+    let l = o .args .l in
+    let b = o .args .bytes .now in
+    let e : c .before .column-count .result + c .balance-row .result ≡ selectorRow (netOf l b) (Price (o .args .power)) 0
+    = ap₂ _+_ (c .before .column-count .ensures ∙ laid-nvar l b (o .pre)) (c .balance-row .ensures ∙ balance-number l b (o .args .power) 0) in
+    omega (arith, e, row-few l b (o .pre) (Price (o .args .power)))
 
 returns : tie.Need-returns
-returns c = ap₂ _+_ (c .before .column-count .ensures ∙ laid-nvar (c .before .before .before .args .l) (c .before .before .before .args .bytes .now) (c .before .before .before .pre .0)) (c .balance-row .ensures ∙ balance-number (c .before .before .before .args .l) (c .before .before .before .args .bytes .now) (c .before .before .before .args .power) 0)
+returns c =
+    let o = c .before .before .before in
+    let l = o .args .l in
+    let b = o .args .bytes .now in
+    ap₂ _+_ (c .before .column-count .ensures ∙ laid-nvar l b (o .pre)) (c .balance-row .ensures ∙ balance-number l b (o .args .power) 0)
 
 pub price-first-spec : {M : Type 1} → statement M
 price-first-spec = tie.close (tie.spec (λ c κs. search needs) (λ c κs. search needs) add-result returns)

@@ -1,16 +1,28 @@
--- `operands::inner::selector::voltage_first` meets its contract. Assumes nothing.
+-- `operands::inner::selector::voltage_first` meets its contract: the column that the layout names is the network's. Assumes nothing.
 use borrow.Author.Needs.{needs}
+use mathlib.Core.Path.{_∙_, refl}
+use Rattle.numbering.specs.declared.ColumnName.the-variants.{W, Wr, Wi}
+use Rattle.numbering.proofs.Laid.{laid-column}
 use Rattle.operands.proofs.inner.selector.voltage_first.Statement.{statement}
 use Rattle.operands.proofs.inner.selector.voltage_first.Tie as tie
 
-w-column-requires : tie.Need-w-column-requires
-w-column-requires c κs = (c .before .before .before .pre .0 .range, rw (c .enum-told3 .given .1) at (c .before .before .before .pre .1))
+returns-3 : tie.Need-returns-3
+returns-3 c =
+    let o = c .before .before .before .before in
+    rw (c .before .enum-told3 .given .1) (c .w-column .ensures ∙ laid-column (o .args .l) (o .args .bytes .now) (o .pre) (W 0) refl)
 
-wr-column-requires : tie.Need-wr-column-requires
-wr-column-requires c κs = (c .before .before .before .pre .0 .range, rw (c .enum-told4 .given .1) at (c .before .before .before .pre .1))
+returns-4 : tie.Need-returns-4
+returns-4 c =
+    let o = c .before .before .before .before in
+    rw (c .before .enum-told4 .given .1) (c .wr-column .ensures ∙ laid-column (o .args .l) (o .args .bytes .now) (o .pre) (Wr 0) refl)
 
-wi-column-requires : tie.Need-wi-column-requires
-wi-column-requires c κs = (c .before .before .before .pre .0 .range, rw (c .enum-told5 .given .1) at (c .before .before .before .pre .1))
+returns-5 : tie.Need-returns-5
+returns-5 c =
+    let o = c .before .before .before .before in
+    rw (c .before .enum-told5 .given .1) (c .wi-column .ensures ∙ laid-column (o .args .l) (o .args .bytes .now) (o .pre) (Wi 0) refl)
 
 pub voltage-first-spec : {M : Type 1} → statement M
-voltage-first-spec = tie.close (tie.spec (λ c. search needs) (λ c. search needs) (λ c. search needs) w-column-requires (λ c. search needs) wr-column-requires (λ c. search needs) wi-column-requires (λ c. search needs) (λ c. search needs) (λ c. rw (c .before .enum-told3 .given .1) (c .w-column .ensures)) (λ c. rw (c .before .enum-told4 .given .1) (c .wr-column .ensures)) (λ c. rw (c .before .enum-told5 .given .1) (c .wi-column .ensures)))
+voltage-first-spec =
+    tie.close
+    (tie.spec (λ c. search needs) (λ c. search needs) (λ c. search needs) (λ c κs. search needs) (λ c. search needs) (λ c κs. search needs) (λ c. search needs)
+    (λ c κs. search needs) (λ c. search needs) (λ c. search needs) returns-3 returns-4 returns-5)
