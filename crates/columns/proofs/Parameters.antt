@@ -10,6 +10,7 @@ use Rattle.numbering.specs.Laid.{netOf, Laid}
 use Rattle.numbering.specs.declared.SocWrLayout.{SocWrLayout}
 use Rattle.numbering.specs.declared.ColumnName.the-variants.{Pg}
 use Rattle.numbering.specs.declared.RowName.{RowName}
+use Rattle.numbering.proofs.Laid.{laid-column}
 use Rattle.rows.specs.Rows.{minusOne, constant64}
 use Rattle.kkt.specs.Kkt.{kktRow}
 use Rattle.interface.specs.declared.Power.{Power}
@@ -36,14 +37,14 @@ module _ (l : SocWrLayout) (b : List ℕ) (h : Laid l b) (x z : List Float) wher
   pub voltage-same : (bound : Bound) (i : ℕ)
       → put (kktIn l (voltageRow bound i)) (mul binary64 (getD z (layoutRow l (voltageRow bound i)) nan) (dbdp bound)) ∷ [] ≡ stores (netOf l b) x z (VoltageBound bound) i
   unfolding stores
-  voltage-same bound i = bound-same (voltageRow bound i) (dbdp bound) (voltage-number l b bound i)
+  voltage-same bound i = bound-same (voltageRow bound i) (dbdp bound) (voltage-number l b h bound i)
 
   pub gen-same : (power : Power) (bound : Bound) (g : ℕ)
       → put (kktIn l (genRow power bound g)) (mul binary64 (getD z (layoutRow l (genRow power bound g)) nan) (dbdp bound)) ∷ [] ≡ stores (netOf l b) x z (GenBound power bound) g
   unfolding stores
-  gen-same power bound g = bound-same (genRow power bound g) (dbdp bound) (gen-number l b power bound g)
+  gen-same power bound g = bound-same (genRow power bound g) (dbdp bound) (gen-number l b h power bound g)
 
   pub cost-same : (term : CostTerm) (g : ℕ)
       → put (layoutColumn l (Pg g)) (costSlope term (getD x (layoutColumn l (Pg g)) nan)) ∷ [] ≡ stores (netOf l b) x z (Cost term) g
   unfolding stores
-  cost-same term g = refl
+  cost-same term g = rw (laid-column l b h (Pg g) refl)

@@ -9,37 +9,24 @@ ghost use Prim.Native.Nat.{_+_, _<_};
 ghost use lib.ListN.{getD};
 ghost use lib.Ieee.{nan};
 ghost use Rattle.lists.specs.UpTo.{each};
-ghost use Rattle.numbering.specs.Numbering.{rowNumber};
 ghost use Rattle.numbering.specs.Tally.{tallyOf};
 ghost use Rattle.numbering.specs.Laid.{netOf, Laid};
 ghost use Rattle.numbering.specs.declared.Tally.the-variants.{Limited};
-ghost use Rattle.numbering.specs.declared.RowName.the-variants.{Thermal};
 ghost use Rattle.admittance.specs.Stores.{put, storedAll};
 ghost use Rattle.columns.specs.Jacobian.{limitStores};
 
 // z at six rows from the base on.
-fn six(nvar: u32, base: usize, z: &[f64], column: &mut [f64])
-    requires { ⌜ base < 4294967296 ⌝ }
+fn six(nvar: u32, base: u32, z: &[f64], column: &mut [f64])
     ensures { λ _. ⌜ now (column .exit) ≡ storedAll (each 6 (λ q. put (nvar + (base + q)) (getD (now (z .entry)) (base + q) nan) ∷ [])) (now (column .entry)) ⌝ }
 {
     let start = nvar as usize;
+    let first = base as usize;
     for q in 0..6 {
-        store_f64(column, start + (base + q), value(z, base + q));
+        store_f64(column, start + (first + q), value(z, first + q));
     }
 }
 
-// The first of a limited branch's six rows; before it there are so many limited branches.
-fn r_thermal(l: SocWrLayout, bytes: &[u8], e: usize, before: usize) -> usize
-    requires { ⌜ Laid l (now bytes) ⌝ }
-    requires { ⌜ e < l .m ⌝ }
-    requires { ⌜ before ≡ tallyOf Limited (now bytes) (l .n) e ⌝ }
-    ensures { λ r. ⌜ r ≡ rowNumber (netOf l (now (bytes .entry))) (Thermal e 0) ⌝ }
-    ensures { λ r. ⌜ r < 4294967296 ⌝ }
-{
-    l.thermal_row(0, 0) as usize + 6 * before
-}
-
-// The cones' z, or nothing where the branch has no limit.
+// The cones' z, or nothing where the branch has no limit; before it there are so many limited branches.
 pub fn line_limit(
     l: SocWrLayout,
     bytes: &[u8],
@@ -54,6 +41,6 @@ pub fn line_limit(
     ensures { λ _. ⌜ now (column .exit) ≡ storedAll (limitStores (netOf l (now (bytes .entry))) (now (z .entry)) e) (now (column .entry)) ⌝ }
 {
     if thermal_limit_active(bytes, l.n + e) {
-        six(l.column_count(), r_thermal(l, bytes, e, before), z, column);
+        six(l.column_count(), l.thermal_row(before, 0), z, column);
     }
 }

@@ -118,7 +118,13 @@ pub fn gen_bound(
     requires { ⌜ g < l .k ⌝ }
     ensures { λ _. ⌜ now (column .exit) ≡ storedAll (put (kktIn l (genRow power bound g)) (mul binary64 (getD (now (z .entry)) (layoutRow l (genRow power bound g)) nan) (dbdp bound)) ∷ []) (now (column .entry)) ⌝ }
 {
-    bound_at(l.column_count(), gen_row(l, power, bound, g), bound, z, column);
+    bound_at(
+        l.column_count(),
+        gen_row(l, power, bound, g),
+        bound,
+        z,
+        column,
+    );
 }
 
 pub fn cost(l: SocWrLayout, term: CostTerm, g: usize, x: &[f64], column: &mut [f64])
