@@ -2,6 +2,7 @@
 mod whole;
 
 use numbering::SocWrLayout;
+use numbering::layout::check_layout;
 use refusals::Checked;
 use refusals::Written;
 use refusals::is_refused;
@@ -115,10 +116,10 @@ pub fn kkt_entries(
     ensures { λ w. ⌜ Answered (kktCheck n m k s (now (bytes .entry)) (now (x .entry)) (now (z .entry)) (now (rows .entry)) (now (cols .entry)) (now (vals .entry))) (kkt (networkOf n m k s (now (bytes .entry))) (now (x .entry)) (now (z .entry))) (now (rows .entry)) (now (cols .entry)) (now (vals .entry)) (now (rows .exit)) (now (cols .exit)) (now (vals .exit)) w ⌝ }
     ensures { λ _. ⌜ Demanded n m k s (now (bytes .entry)) (now (x .entry)) (now (z .entry)) ⌝ }
 {
-    let check = records::check_records(n, m, k, s, bytes);
+    let checked = check_layout(n, m, k, s, bytes, 0);
+    let check = checked.check;
     if is_refused(check) {
         return written_if(check, 0);
     }
-    let l = numbering::inner::layout(n, m, k, s, bytes);
-    kkt_checked(l, bytes, x, z, rows, cols, vals)
+    kkt_checked(checked.layout, bytes, x, z, rows, cols, vals)
 }
