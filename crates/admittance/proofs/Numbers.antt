@@ -10,7 +10,6 @@ use Rattle.numbering.specs.Laid.{netOf, Laid}
 use Rattle.numbering.specs.declared.SocWrLayout.{SocWrLayout}
 use Rattle.numbering.specs.declared.ColumnName.the-variants.{W}
 use Rattle.numbering.specs.declared.RowName.{RowName}
-use Rattle.numbering.specs.declared.RowName.the-variants.{Pbal, Qbal}
 use Rattle.numbering.proofs.Laid.{laid-nvar, laid-column, laid-row}
 use Rattle.kkt.specs.Kkt.{kktRow}
 use Rattle.interface.specs.declared.GB.{GB}
@@ -25,8 +24,8 @@ module _ (l : SocWrLayout) (b : List ℕ) (h : Laid l b) where
   kkt-number r e = ap₂ _+_ (laid-nvar l b h) e
 
   shunt-number : (gb : GB) (i : ℕ) → layoutRow l (shuntRow gb i) ≡ rowNumber (netOf l b) (shuntRow gb i)
-  shunt-number Conductance i = laid-row l b h (Pbal i) refl
-  shunt-number Susceptance i = laid-row l b h (Qbal i) refl
+  shunt-number Conductance i = laid-row l b h (shuntRow Conductance i) refl
+  shunt-number Susceptance i = laid-row l b h (shuntRow Susceptance i) refl
 
   pub shunt-same : (x z : List Float) (gb : GB) (i : ℕ)
       → plus (kktIn l (shuntRow gb i)) (mul binary64 (shuntEntry gb) (getD x (layoutColumn l (W i)) nan))

@@ -11,7 +11,7 @@ use Rattle.numbering.specs.Tally.{tallyOf}
 use Rattle.numbering.specs.Laid.{netOf, Laid}
 use Rattle.numbering.specs.declared.SocWrLayout.{SocWrLayout}
 use Rattle.numbering.specs.declared.Tally.the-variants.{Limited}
-use Rattle.numbering.specs.declared.RowName.the-variants.{Wub, Wlb, Pgub, Pglb, Qgub, Qglb, Thermal}
+use Rattle.numbering.specs.declared.RowName.the-variants.{Thermal}
 use Rattle.numbering.proofs.Layouts.{limited-before}
 use Rattle.numbering.proofs.Laid.{limits-are, laid-row, laid-thermal}
 use Rattle.interface.specs.declared.Power.{Power}
@@ -22,14 +22,14 @@ use Rattle.columns.specs.Jacobian.{voltageRow, genRow}
 
 module _ (l : SocWrLayout) (b : List ℕ) (h : Laid l b) where
   pub voltage-number : (bound : Bound) (i : ℕ) → layoutRow l (voltageRow bound i) ≡ rowNumber (netOf l b) (voltageRow bound i)
-  voltage-number Min i = laid-row l b h (Wlb i) refl
-  voltage-number Max i = laid-row l b h (Wub i) refl
+  voltage-number Min i = laid-row l b h (voltageRow Min i) refl
+  voltage-number Max i = laid-row l b h (voltageRow Max i) refl
 
   pub gen-number : (power : Power) (bound : Bound) (g : ℕ) → layoutRow l (genRow power bound g) ≡ rowNumber (netOf l b) (genRow power bound g)
-  gen-number Active Min g = laid-row l b h (Pglb g) refl
-  gen-number Active Max g = laid-row l b h (Pgub g) refl
-  gen-number Reactive Min g = laid-row l b h (Qglb g) refl
-  gen-number Reactive Max g = laid-row l b h (Qgub g) refl
+  gen-number Active Min g = laid-row l b h (genRow Active Min g) refl
+  gen-number Active Max g = laid-row l b h (genRow Active Max g) refl
+  gen-number Reactive Min g = laid-row l b h (genRow Reactive Min g) refl
+  gen-number Reactive Max g = laid-row l b h (genRow Reactive Max g) refl
 
   -- a limited branch by the count of those before it: there are so many at most, and its rows are at that place
   pub rank-le : (e : ℕ) → e ≤ l .m → tallyOf Limited b (l .n) e ≤ l .t

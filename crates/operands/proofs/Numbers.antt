@@ -7,7 +7,6 @@ use Rattle.numbering.specs.Numbering.{columnNumber}
 use Rattle.numbering.specs.Layout.{layoutColumn}
 use Rattle.numbering.specs.Laid.{netOf, Laid}
 use Rattle.numbering.specs.declared.SocWrLayout.{SocWrLayout}
-use Rattle.numbering.specs.declared.ColumnName.the-variants.{Pg, Qg, Pf, Pt, Qf, Qt}
 use Rattle.numbering.proofs.Numbers.{numbers}
 use Rattle.numbering.proofs.Laid.{curves-are, laid-column}
 use Rattle.interface.specs.declared.Power.{Power}
@@ -22,14 +21,14 @@ use Rattle.operands.specs.Selector.{dispatchColumn, flowOf, selectorRow}
 
 module _ (l : SocWrLayout) (b : List ℕ) (h : Laid l b) where
   pub dispatch-number : (power : Power) (g : ℕ) → layoutColumn l (dispatchColumn power g) ≡ columnNumber (netOf l b) (dispatchColumn power g)
-  dispatch-number Active g = laid-column l b h (Pg g) refl
-  dispatch-number Reactive g = laid-column l b h (Qg g) refl
+  dispatch-number Active g = laid-column l b h (dispatchColumn Active g) refl
+  dispatch-number Reactive g = laid-column l b h (dispatchColumn Reactive g) refl
 
   pub flow-number : (power : Power) (end : End) (e : ℕ) → layoutColumn l (flowOf power end e) ≡ columnNumber (netOf l b) (flowOf power end e)
-  flow-number Active From e = laid-column l b h (Pf e) refl
-  flow-number Active To e = laid-column l b h (Pt e) refl
-  flow-number Reactive From e = laid-column l b h (Qf e) refl
-  flow-number Reactive To e = laid-column l b h (Qt e) refl
+  flow-number Active From e = laid-column l b h (flowOf Active From e) refl
+  flow-number Active To e = laid-column l b h (flowOf Active To e) refl
+  flow-number Reactive From e = laid-column l b h (flowOf Reactive From e) refl
+  flow-number Reactive To e = laid-column l b h (flowOf Reactive To e) refl
 
   -- the first row of an operand, and how many it has
   pub row-few : (o : Operand) → selectorRow (netOf l b) o 0 ≤ 131072

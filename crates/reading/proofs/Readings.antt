@@ -1,7 +1,7 @@
 -- Laws of the checks and of the lists that are read. Assumes nothing.
 use Prim.Native.Nat.{ℕ, zero, suc, _+_, _≤_, _<_}
 use mathlib.Core.Path.{_≡_, refl, sym, _∙_, ap, ap₂, subst}
-use mathlib.Core.Bool.{Bool, true, false}
+use mathlib.Core.Bool.{true, false}
 use mathlib.Core.List.{List, [], _∷_, _++_}
 use native.Mathlib.Omega.{arith}
 use borrow.Author.Tests.{leb-true, lt-ltb, le-ltb}
@@ -31,7 +31,7 @@ use Rattle.numbering.specs.declared.ColumnName.the-variants.{Pg, Qg, W, Wr, Wi,
 use Rattle.numbering.proofs.Laid.{laid, laid-nvar}
 use Rattle.numbering.proofs.Numbers.{numbers, column-number, ncon-number, layout-column, layout-nvar}
 use Rattle.solution.proofs.Lengths.{x-long, z-long}
-use Rattle.reading.specs.Reading.{partColumn, partCount, partList, partIf, partCheck, partOf, pricesCheck, priceList, scalarIf, objectiveOf, objectiveAt}
+use Rattle.reading.specs.Reading.{partColumn, partCount, partList, partIf, partCheck, partOf, pricesCheck, priceList, scalarIf, objectiveAt}
 use Rattle.reading.specs.declared.SolutionList.{SolutionList}
 use Rattle.reading.specs.declared.SolutionList.the-variants as SolutionList
 use Rattle.reading.specs.declared.PreparedObjective.the-variants.{Other}

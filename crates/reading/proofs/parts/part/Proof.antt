@@ -25,7 +25,8 @@ add-end c =
     let p = s .before .check-part .ensures in
     let q = part-laid _ _ _ _ _ _ (p .0) (sym (s .is-refused .ensures) ∙ c .before .before .before .if1 .left) (p .1) in
     let a = s .before .before .before .before .args in
-    omega (arith, q .2, part-fits (s .before .check-part .result .layout) (a .bytes .now) (a .part), c .before .start-of .ensures, c .count-of .ensures, numbers-few (s .before .check-part .result .layout) (q .1 .range))
+    let l = s .before .check-part .result .layout in
+    omega (arith, q .2, part-fits l (a .bytes .now) (a .part), c .before .start-of .ensures, c .count-of .ensures, numbers-few l (q .1 .range))
 
 part-result-end : tie.Need-part-result-end
 part-result-end c =
@@ -42,7 +43,8 @@ returns-2 c =
     let p = t .before .check-part .ensures in
     let a = t .before .before .before .before .args in
     let e : (s .start-of .result + c .before .count-of .result) - s .start-of .result ≡ c .before .count-of .result = omega arith in
-    rw e (part-read (a .n) (a .m) (a .k) (a .s) (a .bytes .now) (a .x .now) (a .part) (p .0) (sym (t .is-refused .ensures) ∙ s .before .before .if1 .left) (p .1) (s .start-of .ensures) (c .before .count-of .ensures))
+    let h = sym (t .is-refused .ensures) ∙ s .before .before .if1 .left in
+    rw e (part-read (a .n) (a .m) (a .k) (a .s) (a .bytes .now) (a .x .now) (a .part) (p .0) h (p .1) (s .start-of .ensures) (c .before .count-of .ensures))
 
 pub part-spec : {M : Type 1} → statement M
 part-spec =
