@@ -88,7 +88,7 @@ fn gather(
 }
 
 // What a fill of the buffer came to: so many segments, and where the walk stands.
-pub struct Gathered {
+pub struct Buffered {
     pub segments: usize,
     pub column: usize,
     pub row: usize,
@@ -115,7 +115,7 @@ pub fn fill(
     starts: &mut [u32],
     rows: &mut [u32],
     values: &mut [f64],
-) -> Gathered
+) -> Buffered
     requires { ⌜ (column < columns) × (row < dim) × (dim ≤ 294912) × (columns ≤ 65536) × (length (now rhs) ≡ dim * columns) ⌝ }
     requires { ⌜ (length (now starts) ≡ 9) × (length (now rows) ≡ 512) × (length (now values) ≡ 512) ⌝ }
     ensures { λ r. ⌜ Filling dim columns column row (now (rhs .entry)) (now (starts .exit)) (now (rows .exit)) (now (values .exit)) (r .segments) (r .column) (r .row) ⌝ }
@@ -132,7 +132,7 @@ pub fn fill(
         s += 1;
         starts[s] = n as u32;
         if got.next < dim {
-            return Gathered {
+            return Buffered {
                 segments: s,
                 column: c,
                 row: got.next,
@@ -140,7 +140,7 @@ pub fn fill(
         }
         c += 1;
         if stops(s, n, c, columns) {
-            return Gathered {
+            return Buffered {
                 segments: s,
                 column: c,
                 row: 0,
