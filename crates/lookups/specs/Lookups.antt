@@ -9,7 +9,7 @@ use Rattle.records.specs.AcNetwork.{AcNetwork}
 use Rattle.records.specs.Network.{networkOf}
 use Rattle.records.specs.Check.{checkOf}
 use Rattle.numbering.specs.Blocks.{Block, records, points, blockAt, numberOf}
-use Rattle.numbering.specs.Numbering.{columnBlocks, rowBlocks}
+use Rattle.numbering.specs.Numbering.{columnBlocks, rowBlocks, costColumns, costRows, thermalRows}
 use Rattle.numbering.specs.Lookups.{pickLookup, afterCheck}
 use Rattle.numbering.specs.declared.Key.{Key}
 use Rattle.numbering.specs.declared.Lookup.{Lookup}
@@ -31,10 +31,10 @@ asked bs has x =
 module _ {A : Type 0} (G : AcNetwork A) where
   -- the generator has a cost column (blocks cost), the branch a limit (block thermal)
   abbrev pub columnHas : Key → Bool
-  columnHas x = cond (eqb (x .block) 9) (G .piecewise (x .item)) true
+  columnHas x = cond (eqb (x .block) costColumns) (G .piecewise (x .item)) true
 
   abbrev pub rowHas : Key → Bool
-  rowHas x = cond (eqb (x .block) 14) (G .piecewise (x .item)) (cond (eqb (x .block) 16) (G .limited (x .item)) true)
+  rowHas x = cond (eqb (x .block) costRows) (G .piecewise (x .item)) (cond (eqb (x .block) thermalRows) (G .limited (x .item)) true)
 
   unfoldable pub columnAsked : Key → Lookup
   columnAsked x = asked (columnBlocks G) (columnHas x) x

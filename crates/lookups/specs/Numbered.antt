@@ -2,10 +2,13 @@
 -- point's name is asked; cone lengths add up to the rows". It speaks of what the entries answer for these counts and bytes.
 use Prim.Native.Nat.{ℕ, _<_}
 use mathlib.Core.Path.{_≡_}
+use mathlib.Core.Bool.{true}
 use mathlib.Core.List.{List}
 use Rattle.records.specs.Network.{networkOf}
 use Rattle.numbering.specs.Blocks.{Valid}
-use Rattle.numbering.specs.Numbering.{columnKey, columnBlocks, columnNumber, ColumnStands, nvar, rowKey, rowBlocks, rowNumber, RowStands, ncon, coneLengths, added}
+use Rattle.numbering.specs.Numbering.{columnKey, columnBlocks, columnCounted, columnNumber, ColumnStands, nvar, rowKey, rowBlocks, rowCounted, rowNumber, RowStands, ncon, coneLengths, added}
+use Rattle.numbering.specs.Layout.{layoutOf}
+use Rattle.numbering.specs.Lookups.{columnIn, rowIn}
 use Rattle.names.specs.Named.{columnNamed, rowNamed}
 use Rattle.lookups.specs.Lookups.{columnLookup, rowLookup}
 use Rattle.numbering.specs.declared.ColumnName.{ColumnName}
@@ -41,5 +44,10 @@ pub record Numbered (n m k s : ℕ) (b : List ℕ) : Type 0 where
   pub rows-below : (x : RowName) → Valid (rowBlocks (networkOf n m k s b)) (rowKey x) → rowNumber (networkOf n m k s b) x < ncon (networkOf n m k s b)
   pub rows-asked : (x : RowName) → Valid (rowBlocks (networkOf n m k s b)) (rowKey x)
       → rowLookup n m k s b (rowKey x) ≡ Number (rowNumber (networkOf n m k s b) x)
+  -- and the layout's methods answer it too, of every name whose number the counts give; a branch's four rows at any place
+  pub columns-by-layout : (x : ColumnName) → columnCounted x ≡ true → Valid (columnBlocks (networkOf n m k s b)) (columnKey x)
+      → columnIn (layoutOf (networkOf n m k s b)) x ≡ Number (columnNumber (networkOf n m k s b) x)
+  pub rows-by-layout : (x : RowName) → rowCounted x ≡ true → Valid (rowBlocks (networkOf n m k s b)) (rowKey x)
+      → rowIn (layoutOf (networkOf n m k s b)) x ≡ Number (rowNumber (networkOf n m k s b) x)
   -- "cone lengths add up to the rows"
   pub cones-add : added (coneLengths (networkOf n m k s b)) ≡ ncon (networkOf n m k s b)

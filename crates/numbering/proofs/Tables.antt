@@ -1,20 +1,40 @@
 -- The blocks of a network and of a layout one by one, and that they have the same lengths: both come of one table. Assumes nothing.
 use Prim.Native.Nat.{ℕ, _*_, _<_}
-use mathlib.Core.Path.{_≡_, refl, ap, _∙_}
+use mathlib.Core.Path.{_≡_, refl, sym, ap, _∙_}
 use mathlib.Core.List.{List}
 use native.Mathlib.Omega.{arith}
 use lib.ListN.{length, getD}
 use Rattle.lists.specs.UpTo.{bit}
 use Rattle.records.specs.AcNetwork.{AcNetwork}
-use Rattle.numbering.specs.Blocks.{alike, unlike, start, size, blockAt, total}
-use Rattle.numbering.specs.Numbering.{columnTable, rowTable, columnBlocks, rowBlocks, costColumns, costRows, jabrRows, thermalRows}
+use Rattle.numbering.specs.Blocks.{alike, unlike, start, size, blockAt, before, total, key, Valid, numberOf}
+use Rattle.numbering.specs.Numbering.{columnTable, rowTable, columnBlocks, rowBlocks, costColumns, costRows, jabrRows, thermalRows, columnKey, rowKey, columnNumber, rowNumber, nvar, ncon}
 use Rattle.numbering.specs.Layout.{layoutColumns, layoutRows, sizesOf, startIn, nvarOf, nconOf}
 use Rattle.numbering.specs.Laid.{netOf, Laid}
 use Rattle.numbering.specs.declared.SocWrLayout.{SocWrLayout}
-use Rattle.numbering.proofs.Entered.{Plain, plain-at, start-is, column-blocks, row-blocks}
+use Rattle.numbering.specs.declared.ColumnName.{ColumnName}
+use Rattle.numbering.specs.declared.RowName.{RowName}
+use Rattle.numbering.proofs.Points.{key-below}
+use Rattle.numbering.proofs.Entered.{Plain, plain-at, plain-number, plain-columns, plain-rows, start-is, column-blocks, row-blocks}
 use Rattle.numbering.proofs.Laid.{limits-are, curves-are}
 
 module _ {A : Type 0} (G : AcNetwork A) where
+  -- ---- a name's number by its key; that of a valid key is below the end
+  pub column-keyed : (x : ColumnName) → columnNumber G x ≡ numberOf (columnBlocks G) (columnKey x)
+  unfolding columnNumber
+  column-keyed x = refl
+
+  pub row-keyed : (x : RowName) → rowNumber G x ≡ numberOf (rowBlocks G) (rowKey x)
+  unfolding rowNumber
+  row-keyed x = refl
+
+  pub column-inside : (x : ColumnName) → Valid (columnBlocks G) (columnKey x) → columnNumber G x < nvar G
+  unfolding columnNumber nvar
+  column-inside x v = key-below (columnBlocks G) (columnKey x) v
+
+  pub row-inside : (x : RowName) → Valid (rowBlocks G) (rowKey x) → rowNumber G x < ncon G
+  unfolding rowNumber ncon
+  row-inside x v = key-below (rowBlocks G) (rowKey x) v
+
   -- ---- how many blocks there are, and which have one point for each record
   pub columns-many : length (columnBlocks G) ≡ 10
   unfolding columnBlocks columnTable
@@ -96,3 +116,30 @@ module _ (l : SocWrLayout) (b : List ℕ) (h : Laid l b) where
   pub laid-row-block : (j : ℕ) → j < 14 → blockAt (rowBlocks (netOf l b)) j ≡ alike (getD (sizesOf (layoutRows l)) j 0) 1
   laid-row-block j k =
       plain-at (rowBlocks (netOf l b)) 14 (rows-plain (netOf l b)) j k ∙ ap (λ (ws : List ℕ). alike (getD ws j 0) 1) row-lengths
+
+  -- and the numbers in them too
+  column-starts : (j : ℕ) → before (layoutColumns l) j ≡ before (columnBlocks (netOf l b)) j
+  column-starts j =
+      sym (start-is (layoutColumns l) j) ∙ ap (λ (ws : List ℕ). startIn ws j) (sym column-lengths) ∙ start-is (columnBlocks (netOf l b)) j
+
+  row-starts : (j : ℕ) → before (layoutRows l) j ≡ before (rowBlocks (netOf l b)) j
+  row-starts j =
+      sym (start-is (layoutRows l) j) ∙ ap (λ (ws : List ℕ). startIn ws j) (sym row-lengths) ∙ start-is (rowBlocks (netOf l b)) j
+
+  pub laid-column-key : (j i : ℕ) → j < 9 → numberOf (layoutColumns l) (key j i 0) ≡ numberOf (columnBlocks (netOf l b)) (key j i 0)
+  laid-column-key j i k =
+      omega (
+        arith,
+        column-starts j,
+        plain-number (layoutColumns l) 10 (plain-columns l) j i (omega arith),
+        plain-number (columnBlocks (netOf l b)) 9 (columns-plain (netOf l b)) j i k,
+      )
+
+  pub laid-row-key : (j i : ℕ) → j < 14 → numberOf (layoutRows l) (key j i 0) ≡ numberOf (rowBlocks (netOf l b)) (key j i 0)
+  laid-row-key j i k =
+      omega (
+        arith,
+        row-starts j,
+        plain-number (layoutRows l) 15 (plain-rows l) j i (omega arith),
+        plain-number (rowBlocks (netOf l b)) 14 (rows-plain (netOf l b)) j i k,
+      )
