@@ -145,9 +145,12 @@ module _ (G : AcNetwork Float) (sound : Sound G) (s z : RowName → Float) (e : 
   -- the cone's columns ascend, and its two bus columns differ
   columns : (columnNumber G (W (G .from e)) < columnNumber G (Wr e)) × (columnNumber G (W (G .to e)) < columnNumber G (Wr e))
       × (columnNumber G (Wr e) < columnNumber G (Wi e)) × (columnNumber G (Wi e) < nvar G)
-  columns =
-      (column-rises G (W (G .from e)) (Wr e) (sound .fromBus e he) he (omega arith), column-rises G (W (G .to e)) (Wr e) (sound .toBus e he) he (omega arith),
-      column-rises G (Wr e) (Wi e) he he (omega arith), column-below G (Wi e) he)
+  columns = (
+    column-rises G (W (G .from e)) (Wr e) (sound .fromBus e he) he (omega arith),
+    column-rises G (W (G .to e)) (Wr e) (sound .toBus e he) he (omega arith),
+    column-rises G (Wr e) (Wi e) he he (omega arith),
+    column-below G (Wi e) he,
+  )
 
   apart : columnNumber G (W (G .from e)) ≡ columnNumber G (W (G .to e)) → ⊥
   apart p = sound .apart e he (omega (arith, column-number G (W (G .from e)), column-number G (W (G .to e))))

@@ -54,4 +54,3 @@ module _ (G : AcNetwork Float) where
   pub rows-listed : (o : Operand) → hasOperand o ≡ true → (items : ℕ) → items ≡ operandLen (G .n) (G .m) (G .k) o → listed items (λ j. selectorRow G o 0 + j) ≡ selectorRows G o
   unfolding selectorRows
   rows-listed o h items e = rw e (upTo-same _++_ [] _ _ _ (λ j l. ap (λ (x : ℕ). x ∷ []) (rows-count o h j)))
-

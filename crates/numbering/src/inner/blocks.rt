@@ -8,34 +8,61 @@ ghost use Rattle.numbering.specs.Layout.{InRange, layoutColumns, layoutR
 
 // The blocks of columns, and of rows, in their order.
 pub const PG: usize = 0;
+
 pub const QG: usize = 1;
+
 pub const W: usize = 2;
+
 pub const WR: usize = 3;
+
 pub const WI: usize = 4;
+
 pub const PF: usize = 5;
+
 pub const PT: usize = 6;
+
 pub const QF: usize = 7;
+
 pub const QT: usize = 8;
+
 pub const COST: usize = 9;
+
 pub const COLUMN_BLOCKS: usize = 10;
 
 pub const PBAL: usize = 0;
+
 pub const QBAL: usize = 1;
+
 pub const OHM_PF: usize = 2;
+
 pub const OHM_QF: usize = 3;
+
 pub const OHM_PT: usize = 4;
+
 pub const OHM_QT: usize = 5;
+
 pub const WUB: usize = 6;
+
 pub const WLB: usize = 7;
+
 pub const PGUB: usize = 8;
+
 pub const PGLB: usize = 9;
+
 pub const QGUB: usize = 10;
+
 pub const QGLB: usize = 11;
+
 pub const ANGUB: usize = 12;
+
 pub const ANGLB: usize = 13;
+
 pub const SEGMENT: usize = 14;
+
 pub const JABR: usize = 15;
+
 pub const THERMAL: usize = 16;
+
 pub const ROW_BLOCKS: usize = 17;
 
 pub type ColumnSizes = [usize; 10];

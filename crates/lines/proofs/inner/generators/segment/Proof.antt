@@ -51,7 +51,6 @@ segment-side-requires c κs =
     rw (segment-record (a .l .n) (a .l .m) (a .l .k) (a .bytes .now) (a .g) (a .t) (ap (λ (x : ℕ). a .l .n + a .l .m + a .l .k + x) (s .pre .1 .1 .0)))
     (segment-inside (s .pre .0 .accepted) (a .g) (a .t) (s .pre .1 .0 .0) (s .pre .1 .0 .1))
 
-
 returns : tie.Need-returns
 unfolding b
 returns c =
