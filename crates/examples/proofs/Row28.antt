@@ -12,7 +12,7 @@ use lib.Ieee.{Float, nan, ofBits, toBits, neg, mul, div, add, sub, ne, eq, le, l
 use Rattle.lists.specs.UpTo.{upTo, each, when, bit}
 use Rattle.lists.specs.Entries.{Entry, entry, sits, times}
 use Rattle.records.specs.Bytes.{le16, le32, le64}
-use Rattle.records.specs.Fields.{flagsOf, countOf, firstOf, secondOf, bitsOf, floatOf,, flagBit, gOf, bOf, gFrOf, bFrOf, gToOf, bToOf, tapOf, limitedOf, piecewiseOf, segmentsOf, angledOf}
+use Rattle.records.specs.Fields.{flagsOf, countOf, firstOf, secondOf, bitsOf, floatOf, flagBit, gOf, bOf, gFrOf, bFrOf, gToOf, bToOf, tapOf, limitedOf, piecewiseOf, segmentsOf, angledOf}
 use Rattle.records.specs.AcNetwork.{AcNetwork}
 use Rattle.records.specs.Network.{branchOf, segmentRecord}
 use Rattle.numbering.specs.Numbering.{nvar, columnNumber, rowNumber}

@@ -2,13 +2,16 @@
 use numbering::LayoutAnswer;
 use numbering::Lookup;
 use numbering::SocWrLayout;
-use numbering::inner::blocks;
+use numbering::inner::blocks::ROW_BLOCKS;
 use numbering::layout::refused;
 use refusals::Refusal;
 use refusals::is_refused;
+use refusals::number_of;
+use refusals::value_of;
 ghost use mathlib.Core.Path.{_≡_};
 ghost use Prim.Native.Nat.{_+_, _*_, _≤_};
 ghost use lib.ListN.{length};
+ghost use Rattle.numbering.specs.Lookups.{layoutNumber, layoutValue};
 ghost use Rattle.input.specs.Input.{runOf, CountsOf, inputLayout, firstRow, rowCount};
 
 pub struct Counts {
@@ -61,6 +64,25 @@ pub fn layout_of(b: &[u8]) -> LayoutAnswer
     SocWrLayout::new(c.n, c.m, c.k, c.s, b)
 }
 
+// The number and the returned value of that answer, which the line of a refusal states.
+pub fn layout_number(a: LayoutAnswer) -> u64
+    ensures { λ r. ⌜ r ≡ layoutNumber a ⌝ }
+{
+    match a {
+        LayoutAnswer::Layout(_) => 0,
+        LayoutAnswer::Refused(cause) => number_of(cause),
+    }
+}
+
+pub fn layout_value(a: LayoutAnswer) -> u64
+    ensures { λ r. ⌜ r ≡ layoutValue a ⌝ }
+{
+    match a {
+        LayoutAnswer::Layout(_) => 0,
+        LayoutAnswer::Refused(cause) => value_of(cause),
+    }
+}
+
 // The first row of a block; block 17 is past the last, where all rows end.
 pub fn first_row(l: SocWrLayout, block: usize) -> Lookup
     ensures { λ r. ⌜ r ≡ firstRow l block ⌝ }
@@ -69,11 +91,10 @@ pub fn first_row(l: SocWrLayout, block: usize) -> Lookup
     if is_refused(cause) {
         return refused(cause);
     }
-    if 17 < block {
+    if ROW_BLOCKS < block {
         return Lookup::Refused(Refusal::PastEnd(block as u64));
     }
-    let sizes = blocks::row_sizes(l);
-    Lookup::Number(blocks::start_of(&sizes, block) as u32)
+    Lookup::Number(l.row_start(block))
 }
 
 // How many rows a block has.
@@ -84,9 +105,8 @@ pub fn row_count(l: SocWrLayout, block: usize) -> Lookup
     if is_refused(cause) {
         return refused(cause);
     }
-    if 17 <= block {
+    if ROW_BLOCKS <= block {
         return Lookup::Refused(Refusal::PastEnd(block as u64));
     }
-    let sizes = blocks::row_sizes(l);
-    Lookup::Number(sizes[block] as u32)
+    Lookup::Number(l.row_size(block))
 }

@@ -1,17 +1,18 @@
 -- The structs of include/socwr.h, by their fields.
 use Prim.Native.Nat.{ℕ}
 use mathlib.Core.Path.{_≡_}
+use lib.Ieee.{Float}
 use Rattle.refusals.specs.Refusals.{checkedNumber, checkedValue, writtenNumber, writtenValue}
 use Rattle.refusals.specs.declared.Checked.{Checked}
 use Rattle.refusals.specs.declared.Written.{Written}
+use Rattle.records.specs.AcNetwork.{AcNetwork}
 use Rattle.records.specs.Counts.{ifAccepted}
-use Rattle.numbering.specs.Blocks.{key, total}
-use Rattle.numbering.specs.Numbering.{columnKey, rowKey}
-use Rattle.numbering.specs.Layout.{nEqOf, nIneqOf, nvarOf, nconOf}
-use Rattle.numbering.specs.Lookups.{lookupNumber, lookupValue}
+use Rattle.numbering.specs.Blocks.{key}
+use Rattle.numbering.specs.Numbering.{columnKey, rowKey, limits, curves, nvar, ncon, nEq, nIneq}
+use Rattle.numbering.specs.Lookups.{lookupNumber, lookupValue, layoutNumber, layoutValue}
 use Rattle.numbering.specs.declared.Key.{Key}
 use Rattle.numbering.specs.declared.Lookup.{Lookup}
-use Rattle.numbering.specs.declared.SocWrLayout.{SocWrLayout}
+use Rattle.numbering.specs.declared.LayoutAnswer.{LayoutAnswer}
 use Rattle.names.specs.declared.ColumnAnswer.{ColumnAnswer}
 use Rattle.names.specs.declared.ColumnAnswer.the-variants as ColumnAnswer
 use Rattle.names.specs.declared.RowAnswer.{RowAnswer}
@@ -34,16 +35,17 @@ pub record LookupAnswer (l : Lookup) (r : Answer) : Type 0 where
   pub number : r .number ≡ lookupNumber l
   pub value : r .value ≡ lookupValue l
 
--- `socwr_sizes`: "the last six are 0 on a refusal"
-pub record SizesAnswer (c : Checked) (l : SocWrLayout) (r : Sizes) : Type 0 where
-  pub number : r .number ≡ checkedNumber c
-  pub value : r .value ≡ checkedValue c
-  pub n_eq : r .«n_eq» ≡ ifAccepted c (nEqOf l)
-  pub n_ineq : r .«n_ineq» ≡ ifAccepted c (nIneqOf l)
-  pub nvar : r .nvar ≡ ifAccepted c (nvarOf l)
-  pub ncon : r .ncon ≡ ifAccepted c (nconOf l)
-  pub t : r .t ≡ ifAccepted c (l .t)
-  pub cost_columns : r .«cost_columns» ≡ ifAccepted c (l .«cost_columns»)
+-- `socwr_sizes`: the number and the value of `SocWrLayout::new`'s answer a; "the last six are 0 on a refusal", and else the sizes of the
+-- network: its nvar and ncon are those of demand 3
+pub record SizesAnswer (a : LayoutAnswer) (c : Checked) (G : AcNetwork Float) (r : Sizes) : Type 0 where
+  pub number : r .number ≡ layoutNumber a
+  pub value : r .value ≡ layoutValue a
+  pub n_eq : r .«n_eq» ≡ ifAccepted c (nEq G)
+  pub n_ineq : r .«n_ineq» ≡ ifAccepted c (nIneq G)
+  pub nvar : r .nvar ≡ ifAccepted c (nvar G)
+  pub ncon : r .ncon ≡ ifAccepted c (ncon G)
+  pub t : r .t ≡ ifAccepted c (limits G)
+  pub cost_columns : r .«cost_columns» ≡ ifAccepted c (curves G)
 
 pub record NoSizes (c : Checked) (r : Sizes) : Type 0 where
   pub number : r .number ≡ checkedNumber c

@@ -12,7 +12,6 @@ use names::named;
 use numbering::Key;
 use numbering::Lookup;
 use numbering::SocWrLayout;
-use numbering::inner;
 use numbering::layout::check_layout;
 use refusals::Checked;
 use refusals::is_refused;
@@ -25,8 +24,10 @@ ghost use Rattle.records.specs.Check.{checkOf};
 ghost use Rattle.records.specs.Network.{networkOf};
 ghost use Rattle.numbering.specs.Blocks.{key};
 ghost use Rattle.numbering.specs.Numbering.{SameKey, coneLengths};
-ghost use Rattle.numbering.specs.Layout.{InRange, layoutOf};
-ghost use Rattle.numbering.specs.Lookups.{lookupNumber, lookupValue, conesCheck, coneCount};
+ghost use Rattle.numbering.specs.Layout.{layoutOf};
+ghost use Rattle.numbering.specs.Laid.{netOf, Laid};
+ghost use Rattle.numbering.specs.Lookups.{newLayout, lookupNumber, lookupValue, conesCheck, coneCount};
+ghost use Rattle.numbering.specs.declared.LayoutAnswer.the-variants.{Layout};
 ghost use Rattle.names.specs.Named.{columnAnswerNumber, columnAnswerValue, columnNamed, rowAnswerNumber, rowAnswerValue, rowNamed};
 ghost use Rattle.lookups.specs.Lookups.{columnLookup, rowLookup};
 ghost use Rattle.kernel.specs.Answers.{CheckedAnswer, WrittenAnswer, LookupAnswer, SizesAnswer, NoSizes, columnAnswerKey, rowAnswerKey, NameAnswer};
@@ -59,10 +60,10 @@ pub extern "C" fn socwr_check_records(n: u64, m: u64, k: u64, s: u64, records: &
     checked_answer(records::check_records(n as usize, m as usize, k as usize, s as usize, records))
 }
 
-// The sizes of a layout in range.
-fn sizes_of(l: SocWrLayout) -> Sizes
-    requires { ⌜ InRange l ⌝ }
-    ensures { λ r. ⌜ SizesAnswer Checked.Accepted l r ⌝ }
+// The sizes of accepted records, from their layout.
+fn sizes_of(l: SocWrLayout, records: &[u8]) -> Sizes
+    requires { ⌜ Laid l (now records) ⌝ }
+    ensures { λ r. ⌜ SizesAnswer (Layout l) Checked.Accepted (netOf l (now (records .entry))) r ⌝ }
 {
     Sizes {
         number: 0,
@@ -93,14 +94,14 @@ fn no_sizes(c: Checked) -> Sizes
 
 #[no_mangle]
 pub extern "C" fn socwr_layout_new(n: u64, m: u64, k: u64, s: u64, records: &[u8]) -> Sizes
-    ensures { λ r. ⌜ SizesAnswer (checkOf n m k s (now (records .entry))) (layoutOf (networkOf n m k s (now (records .entry)))) r ⌝ }
+    ensures { λ r. ⌜ SizesAnswer (newLayout n m k s (now (records .entry))) (checkOf n m k s (now (records .entry))) (networkOf n m k s (now (records .entry))) r ⌝ }
 {
     let checked = check_layout(n as usize, m as usize, k as usize, s as usize, records, 0);
     let check = checked.check;
     if is_refused(check) {
         return no_sizes(check);
     }
-    sizes_of(checked.layout)
+    sizes_of(checked.layout, records)
 }
 
 fn lookup_number(l: Lookup) -> u64

@@ -4,19 +4,17 @@ use libc::STDOUT_FILENO;
 use numbering::LayoutAnswer;
 use numbering::Lookup;
 use numbering::SocWrLayout;
-use refusals::Refusal;
-use refusals::number_of;
-use refusals::value_of;
+use numbering::inner::blocks;
 
 fn number(n: u64) {
     io::write_all(STDOUT_FILENO, b" ");
     io::print_decimal(STDOUT_FILENO, n);
 }
 
-fn refuse(cause: Refusal) {
+fn refuse(a: LayoutAnswer) {
     io::write_all(STDOUT_FILENO, b"refused");
-    number(number_of(cause));
-    number(value_of(cause));
+    number(input::layout_number(a));
+    number(input::layout_value(a));
     io::write_all(STDOUT_FILENO, b"\n");
 }
 
@@ -36,41 +34,42 @@ fn line(name: &[u8], l: SocWrLayout, block: usize) {
 }
 
 fn equalities(l: SocWrLayout) {
-    line(b"pbal", l, 0);
-    line(b"qbal", l, 1);
-    line(b"ohm_pf", l, 2);
-    line(b"ohm_qf", l, 3);
-    line(b"ohm_pt", l, 4);
-    line(b"ohm_qt", l, 5);
+    line(b"pbal", l, blocks::PBAL);
+    line(b"qbal", l, blocks::QBAL);
+    line(b"ohm_pf", l, blocks::OHM_PF);
+    line(b"ohm_qf", l, blocks::OHM_QF);
+    line(b"ohm_pt", l, blocks::OHM_PT);
+    line(b"ohm_qt", l, blocks::OHM_QT);
 }
 
 fn inequalities(l: SocWrLayout) {
-    line(b"wub", l, 6);
-    line(b"wlb", l, 7);
-    line(b"pgub", l, 8);
-    line(b"pglb", l, 9);
-    line(b"qgub", l, 10);
-    line(b"qglb", l, 11);
-    line(b"angub", l, 12);
-    line(b"anglb", l, 13);
-    line(b"cost", l, 14);
+    line(b"wub", l, blocks::WUB);
+    line(b"wlb", l, blocks::WLB);
+    line(b"pgub", l, blocks::PGUB);
+    line(b"pglb", l, blocks::PGLB);
+    line(b"qgub", l, blocks::QGUB);
+    line(b"qglb", l, blocks::QGLB);
+    line(b"angub", l, blocks::ANGUB);
+    line(b"anglb", l, blocks::ANGLB);
+    line(b"cost", l, blocks::SEGMENT);
 }
 
-fn blocks(l: SocWrLayout) {
+fn rows(l: SocWrLayout) {
     equalities(l);
     inequalities(l);
-    line(b"jabr", l, 15);
-    line(b"thermal", l, 16);
+    line(b"jabr", l, blocks::JABR);
+    line(b"thermal", l, blocks::THERMAL);
     io::write_all(STDOUT_FILENO, b"total");
-    found(input::first_row(l, 17));
+    found(input::first_row(l, blocks::ROW_BLOCKS));
     io::write_all(STDOUT_FILENO, b"\n");
 }
 
 fn main() {
     let mut buffer = [0u8; 65537];
     let n = io::read_full(STDIN_FILENO, &mut buffer);
-    match input::layout_of(&buffer[..n]) {
-        LayoutAnswer::Layout(l) => blocks(l),
-        LayoutAnswer::Refused(cause) => refuse(cause),
+    let a = input::layout_of(&buffer[..n]);
+    match a {
+        LayoutAnswer::Layout(l) => rows(l),
+        LayoutAnswer::Refused(_) => refuse(a),
     }
 }

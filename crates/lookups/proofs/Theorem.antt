@@ -8,7 +8,6 @@ use native.Mathlib.Decide.{ℕ-discrete}
 use lib.Dec.{eqb}
 use lib.Ieee.{Float}
 use borrow.Author.Tests.{lt-ltb, eq-eqb, ne-eqb, eqb-false, not-true}
-use Rattle.lists.specs.UpTo.{bit}
 use Rattle.refusals.specs.declared.Checked.the-variants.{Accepted}
 use Rattle.records.specs.AcNetwork.{AcNetwork}
 use Rattle.records.specs.Network.{networkOf}
@@ -36,11 +35,7 @@ use Rattle.numbering.proofs.Laid.{laid, laid-column, laid-row}
 use Rattle.numbering.proofs.Tables.{column-keyed, row-keyed, column-inside, row-inside, columns-many, rows-many, cost-block, segment-block, jabr-block, thermal-block, jabr-layout, laid-column-block, laid-row-block}
 use Rattle.lookups.proofs.Asked.{ask-found}
 use Rattle.names.proofs.Answers.{column-given, row-given}
-
--- some points of a record whose points are w where the test holds, and none where it does not
-bit-true : (p w : ℕ) (t : Bool) → p < w * bit t → t ≡ true
-bit-true p w true h = refl
-bit-true p w false h = absurd (omega arith)
+use Rattle.names.proofs.Standing.{bit-true}
 
 -- a valid key's record has the block's points
 module _ (G : AcNetwork Float) (x : Key) where

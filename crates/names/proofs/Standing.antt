@@ -1,5 +1,5 @@
 -- The name that is found for a point stands there: the layout gives the name's number, and the network has the name. Assumes nothing.
-use Prim.Native.Nat.{ℕ, _+_, _/_, _%_, _<_}
+use Prim.Native.Nat.{ℕ, _+_, _*_, _/_, _%_, _<_}
 use mathlib.Core.Path.{_≡_, refl, sym, ap, _∙_}
 use mathlib.Core.Bool.{Bool, true, false}
 use mathlib.Core.List.{List}
@@ -8,6 +8,7 @@ use borrow.Author.Tests.{ne-eqb}
 use lib.Ieee.{Float}
 use lib.ListN.{length, getD}
 use Rattle.lists.specs.UpTo.{bit, count}
+use Rattle.lists.proofs.Sums.{bit-le}
 use Rattle.records.specs.AcNetwork.{AcNetwork}
 use Rattle.numbering.specs.Blocks.{key, before, numberOf}
 use Rattle.numbering.specs.Numbering.{SameKey, columnKey, columnCounted, ColumnStands, nvar, costColumns, rowKey, rowCounted, RowStands, ncon, costRows, jabrRows, thermalRows}
@@ -28,10 +29,10 @@ use Rattle.numbering.proofs.Laid.{limits-are, curves-are, laid-nvar, laid-ncon,
 use Rattle.numbering.proofs.Entered.{start-is, plain-number, plain-columns, plain-rows, jabr-number, thermal-number}
 use Rattle.numbering.proofs.Tables.{cost-length, segment-length, jabr-length, thermal-length, columns-end, rows-end, laid-column-block, laid-row-block}
 
--- a place below a test's bit: the test holds, and the place is 0
-bit-held : (j : ℕ) (t : Bool) → j < bit t → (t ≡ true) × (j ≡ 0)
-bit-held j true h = (refl, omega arith)
-bit-held j false h = absurd (omega arith)
+-- a record has w points where the test holds, and none where it does not
+pub bit-true : (p w : ℕ) (t : Bool) → p < w * bit t → t ≡ true
+bit-true p w true h = refl
+bit-true p w false h = absurd (omega arith)
 
 module _ (l : SocWrLayout) (b : List ℕ) (h : Laid l b) where
   abbrev G : AcNetwork Float
@@ -68,10 +69,10 @@ module _ (l : SocWrLayout) (b : List ℕ) (h : Laid l b) where
     pub cost-stands : q .item ≡ costColumns → (g : Place) → Located Piecewise b (l .n + l .m) (l .k) (q .at) g → ColumnStands G p (CostOf (g .item))
     unfolding pointsOf
     cost-stands e g f =
-        let t = bit-held (g .at) (G .piecewise (g .item)) (f .inside) in
-        let n : count (g .item) (G .piecewise) ≡ q .at = omega (arith, f .number, piecewise-before (l .n) (l .m) (l .k) (l .s) b (g .item)) in
+        let one = bit-le (G .piecewise (g .item)) in
+        let n : count (g .item) (G .piecewise) ≡ q .at = omega (arith, f .number, f .inside, piecewise-before (l .n) (l .m) (l .k) (l .s) b (g .item)) in
         record {
-          valid = column-valid G (CostOf (g .item)) (f .below, t .0);
+          valid = column-valid G (CostOf (g .item)) (f .below, bit-true (g .at) 1 (G .piecewise (g .item)) (omega (arith, f .inside)));
           number = sym (laid-cost l b h (g .item)) ∙ rw n (rw e at (column-there (omega arith)));
         }
 
@@ -129,10 +130,10 @@ module _ (l : SocWrLayout) (b : List ℕ) (h : Laid l b) where
         → RowStands G p (Thermal (e .item) (q .at % 6))
     unfolding pointsOf
     thermal-stands i e f =
-        let t = bit-held (e .at) (G .limited (e .item)) (f .inside) in
-        let n : count (e .item) (G .limited) ≡ q .at / 6 = omega (arith, f .number, limited-before (l .n) (l .m) (l .k) (l .s) b (e .item)) in
+        let one = bit-le (G .limited (e .item)) in
+        let n : count (e .item) (G .limited) ≡ q .at / 6 = omega (arith, f .number, f .inside, limited-before (l .n) (l .m) (l .k) (l .s) b (e .item)) in
         let z = rw n at (laid-thermal l b h (e .item) (q .at % 6)) in
         record {
-          valid = row-valid G (Thermal (e .item) (q .at % 6)) (f .below, t .0, omega arith);
+          valid = row-valid G (Thermal (e .item) (q .at % 6)) (f .below, bit-true (e .at) 1 (G .limited (e .item)) (omega (arith, f .inside)), omega arith);
           number = omega (arith, z, thermal-number l (q .at / 6) (q .at % 6), place-there thermalRows i);
         }

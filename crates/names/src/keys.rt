@@ -3,65 +3,30 @@ use numbering::ColumnName;
 use numbering::Key;
 use numbering::RowName;
 use numbering::inner::blocks;
-ghost use mathlib.Core.Path.{_≡_};
 ghost use Prim.Native.Nat.{_<_};
 ghost use Rattle.numbering.specs.Blocks.{key};
 ghost use Rattle.numbering.specs.Numbering.{columnKey, rowKey, SameKey};
+
+fn keyed(block: usize, item: usize, place: usize) -> Key
+    ensures { λ r. ⌜ SameKey r (key block item place) ⌝ }
+{
+    Key { block, item, place }
+}
 
 pub fn column_key(name: ColumnName) -> Key
     ensures { λ r. ⌜ SameKey r (columnKey name) ⌝ }
 {
     match name {
-        ColumnName::Pg(i) => Key {
-            block: blocks::PG,
-            item: i,
-            place: 0,
-        },
-        ColumnName::Qg(i) => Key {
-            block: blocks::QG,
-            item: i,
-            place: 0,
-        },
-        ColumnName::W(i) => Key {
-            block: blocks::W,
-            item: i,
-            place: 0,
-        },
-        ColumnName::Wr(i) => Key {
-            block: blocks::WR,
-            item: i,
-            place: 0,
-        },
-        ColumnName::Wi(i) => Key {
-            block: blocks::WI,
-            item: i,
-            place: 0,
-        },
-        ColumnName::Pf(i) => Key {
-            block: blocks::PF,
-            item: i,
-            place: 0,
-        },
-        ColumnName::Pt(i) => Key {
-            block: blocks::PT,
-            item: i,
-            place: 0,
-        },
-        ColumnName::Qf(i) => Key {
-            block: blocks::QF,
-            item: i,
-            place: 0,
-        },
-        ColumnName::Qt(i) => Key {
-            block: blocks::QT,
-            item: i,
-            place: 0,
-        },
-        ColumnName::CostOf(i) => Key {
-            block: blocks::COST,
-            item: i,
-            place: 0,
-        },
+        ColumnName::Pg(i) => keyed(blocks::PG, i, 0),
+        ColumnName::Qg(i) => keyed(blocks::QG, i, 0),
+        ColumnName::W(i) => keyed(blocks::W, i, 0),
+        ColumnName::Wr(i) => keyed(blocks::WR, i, 0),
+        ColumnName::Wi(i) => keyed(blocks::WI, i, 0),
+        ColumnName::Pf(i) => keyed(blocks::PF, i, 0),
+        ColumnName::Pt(i) => keyed(blocks::PT, i, 0),
+        ColumnName::Qf(i) => keyed(blocks::QF, i, 0),
+        ColumnName::Qt(i) => keyed(blocks::QT, i, 0),
+        ColumnName::CostOf(i) => keyed(blocks::COST, i, 0),
     }
 }
 
@@ -69,92 +34,47 @@ pub fn row_key(name: RowName) -> Key
     ensures { λ r. ⌜ SameKey r (rowKey name) ⌝ }
 {
     match name {
-        RowName::Pbal(i) => Key {
-            block: blocks::PBAL,
-            item: i,
-            place: 0,
-        },
-        RowName::Qbal(i) => Key {
-            block: blocks::QBAL,
-            item: i,
-            place: 0,
-        },
-        RowName::OhmPf(i) => Key {
-            block: blocks::OHM_PF,
-            item: i,
-            place: 0,
-        },
-        RowName::OhmQf(i) => Key {
-            block: blocks::OHM_QF,
-            item: i,
-            place: 0,
-        },
-        RowName::OhmPt(i) => Key {
-            block: blocks::OHM_PT,
-            item: i,
-            place: 0,
-        },
-        RowName::OhmQt(i) => Key {
-            block: blocks::OHM_QT,
-            item: i,
-            place: 0,
-        },
-        RowName::Wub(i) => Key {
-            block: blocks::WUB,
-            item: i,
-            place: 0,
-        },
-        RowName::Wlb(i) => Key {
-            block: blocks::WLB,
-            item: i,
-            place: 0,
-        },
-        RowName::Pgub(i) => Key {
-            block: blocks::PGUB,
-            item: i,
-            place: 0,
-        },
-        RowName::Pglb(i) => Key {
-            block: blocks::PGLB,
-            item: i,
-            place: 0,
-        },
-        RowName::Qgub(i) => Key {
-            block: blocks::QGUB,
-            item: i,
-            place: 0,
-        },
-        RowName::Qglb(i) => Key {
-            block: blocks::QGLB,
-            item: i,
-            place: 0,
-        },
-        RowName::Angub(i) => Key {
-            block: blocks::ANGUB,
-            item: i,
-            place: 0,
-        },
-        RowName::Anglb(i) => Key {
-            block: blocks::ANGLB,
-            item: i,
-            place: 0,
-        },
-        RowName::Segment(i, q) => Key {
-            block: blocks::SEGMENT,
-            item: i,
-            place: q,
-        },
-        RowName::Jabr(i, q) => Key {
-            block: blocks::JABR,
-            item: i,
-            place: q,
-        },
-        RowName::Thermal(i, q) => Key {
-            block: blocks::THERMAL,
-            item: i,
-            place: q,
-        },
+        RowName::Pbal(i) => keyed(blocks::PBAL, i, 0),
+        RowName::Qbal(i) => keyed(blocks::QBAL, i, 0),
+        RowName::OhmPf(i) => keyed(blocks::OHM_PF, i, 0),
+        RowName::OhmQf(i) => keyed(blocks::OHM_QF, i, 0),
+        RowName::OhmPt(i) => keyed(blocks::OHM_PT, i, 0),
+        RowName::OhmQt(i) => keyed(blocks::OHM_QT, i, 0),
+        RowName::Wub(i) => keyed(blocks::WUB, i, 0),
+        RowName::Wlb(i) => keyed(blocks::WLB, i, 0),
+        RowName::Pgub(i) => keyed(blocks::PGUB, i, 0),
+        RowName::Pglb(i) => keyed(blocks::PGLB, i, 0),
+        RowName::Qgub(i) => keyed(blocks::QGUB, i, 0),
+        RowName::Qglb(i) => keyed(blocks::QGLB, i, 0),
+        RowName::Angub(i) => keyed(blocks::ANGUB, i, 0),
+        RowName::Anglb(i) => keyed(blocks::ANGLB, i, 0),
+        RowName::Segment(i, q) => keyed(blocks::SEGMENT, i, q),
+        RowName::Jabr(i, q) => keyed(blocks::JABR, i, q),
+        RowName::Thermal(i, q) => keyed(blocks::THERMAL, i, q),
     }
+}
+
+// A row of the zero cone.
+fn equality_row(block: usize, item: usize) -> RowName
+    requires { ⌜ block < 6 ⌝ }
+    ensures { λ r. ⌜ SameKey (rowKey r) (key block item 0) ⌝ }
+{
+    if block <= blocks::PBAL {
+        return RowName::Pbal(item);
+    }
+    if block <= blocks::QBAL {
+        return RowName::Qbal(item);
+    }
+    if block <= blocks::OHM_PF {
+        return RowName::OhmPf(item);
+    }
+    if block <= blocks::OHM_QF {
+        return RowName::OhmQf(item);
+    }
+    if block <= blocks::OHM_PT {
+        return RowName::OhmPt(item);
+    }
+    RowName::OhmQt(item)
 }
 
 // The column, and the row, of a record of a block whose records have one each.
@@ -193,23 +113,8 @@ pub(crate) fn plain_row(block: usize, item: usize) -> RowName
     requires { ⌜ block < 14 ⌝ }
     ensures { λ r. ⌜ SameKey (rowKey r) (key block item 0) ⌝ }
 {
-    if block <= blocks::PBAL {
-        return RowName::Pbal(item);
-    }
-    if block <= blocks::QBAL {
-        return RowName::Qbal(item);
-    }
-    if block <= blocks::OHM_PF {
-        return RowName::OhmPf(item);
-    }
-    if block <= blocks::OHM_QF {
-        return RowName::OhmQf(item);
-    }
-    if block <= blocks::OHM_PT {
-        return RowName::OhmPt(item);
-    }
-    if block <= blocks::OHM_QT {
-        return RowName::OhmQt(item);
+    if block < blocks::WUB {
+        return equality_row(block, item);
     }
     if block <= blocks::WUB {
         return RowName::Wub(item);

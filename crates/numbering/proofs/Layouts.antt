@@ -85,14 +85,6 @@ module _ (n m k s : ℕ) (b : List ℕ) where
   unfolding tallyOf pointsOf
   piecewise-before g = refl
 
-  pub limited-few : (e : ℕ) → tallyOf Limited b n e ≤ e
-  unfolding tallyOf pointsOf
-  limited-few e = count-le e (G .limited)
-
-  pub piecewise-few : (g : ℕ) → tallyOf Piecewise b (n + m) g ≤ g
-  unfolding tallyOf pointsOf
-  piecewise-few g = count-le g (G .piecewise)
-
   -- a generator's segment lies among all
   pub segment-inside : Network.Accepted n m k s b → (g t : ℕ) → g < k → t < segmentsOf b (n + m + g) → sum g (G .segments) + t < s
   segment-inside a g t l h =

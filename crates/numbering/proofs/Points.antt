@@ -128,10 +128,6 @@ module _ (bs : List Block) (k : Key) (v : Valid bs k) where
   unfolding numberOf total
   key-below = omega (arith, outer, rising (before bs) (before-up bs) (suc (k .block)) (length bs) (among bs (k .block) (k .item) (v .item)))
 
--- so whatever key stands at a point is its key
-pub key-only : (bs : List Block) (p : ℕ) (k : Key) → KeyStands bs p k → k ≡ keyAt bs p
-key-only bs p k h = sym (key-placed bs k (h .valid)) ∙ ap (keyAt bs) (h .number)
-
 -- ---- a key of an earlier block has a smaller number
 pub block-rises : (bs : List Block) (j k : Key) → Valid bs j → Valid bs k → j .block < k .block → numberOf bs j < numberOf bs k
 unfolding numberOf
