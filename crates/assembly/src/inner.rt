@@ -23,7 +23,9 @@ ghost use Rattle.cells.specs.Columns.{Columns, Whole};
 ghost use Rattle.bus_columns.specs.Counts.{ownCells, fromCells, toCells};
 ghost use Rattle.assembly.specs.Ahead.{Ahead};
 ghost use Rattle.assembly.specs.Parts.{generatorColumns, productColumns, flowColumns, branchColumns, mostA, Roomy};
+ghost use Rattle.numbering.specs.Layout.{layoutColumn};
 ghost use Rattle.numbering.specs.Laid.{netOf, Laid};
+ghost use Rattle.numbering.specs.declared.ColumnName.the-variants.{Pg, W, Wr, Pf};
 
 // The pg and qg columns.
 fn fill_generators(
@@ -36,7 +38,7 @@ fn fill_generators(
 ) -> usize
     requires { ⌜ Laid l (now bytes) ⌝ }
     requires { ⌜ at ≡ 0 ⌝ }
-    ensures { λ x. ⌜ Columns (generatorColumns (netOf l (now (bytes .entry)))) 0 (now (starts .entry)) (cellOut (now (rows .entry)) (now (vals .entry)) at) (now (starts .exit)) (cellOut (now (rows .exit)) (now (vals .exit)) x) ⌝ }
+    ensures { λ x. ⌜ Columns (generatorColumns (netOf l (now (bytes .entry)))) (layoutColumn l (Pg 0)) (now (starts .entry)) (cellOut (now (rows .entry)) (now (vals .entry)) at) (now (starts .exit)) (cellOut (now (rows .exit)) (now (vals .exit)) x) ⌝ }
     ensures { λ x. ⌜ x ≤ 6 * l .k + l .s ⌝ }
 {
     let next = put_pgs(starts, rows, vals, at, l, bytes);
@@ -54,14 +56,14 @@ fn fill_buses(
     bytes: &[u8],
 ) -> usize
     requires { ⌜ Laid l (now bytes) ⌝ }
-    requires { ⌜ (at < 900000) × (2 * l .k + l .n + 2 * l .m + 1 ≤ length (now starts)) ⌝ }
+    requires { ⌜ (at < 900000) × (layoutColumn l (Pf 0) + 1 ≤ length (now starts)) ⌝ }
     requires { ⌜ at + sum (l .n) (λ i. length (ownCells (netOf l (now bytes)) i)) + 12 * l .m ≤ length (now vals) ⌝ }
-    ensures { λ x. ⌜ Ahead (listed (l .n) (wCells (netOf l (now (bytes .entry))))) (2 * l .k) (2 * l .m) (at + sum (l .n) (λ i. length (ownCells (netOf l (now (bytes .entry))) i)) + 12 * l .m) (now (starts .entry)) (cellOut (now (rows .entry)) (now (vals .entry)) at) (now (starts .exit)) (cellOut (now (rows .exit)) (now (vals .exit)) x) ⌝ }
+    ensures { λ x. ⌜ Ahead (listed (l .n) (wCells (netOf l (now (bytes .entry))))) (layoutColumn l (W 0)) (2 * l .m) (at + sum (l .n) (λ i. length (ownCells (netOf l (now (bytes .entry))) i)) + 12 * l .m) (now (starts .entry)) (cellOut (now (rows .entry)) (now (vals .entry)) at) (now (starts .exit)) (cellOut (now (rows .exit)) (now (vals .exit)) x) ⌝ }
     ensures { λ x. ⌜ x ≤ at + 4 * l .n + 8 * l .m ⌝ }
 {
     let gathered = at + count_buses(l, bytes) + 8 * l.m;
-    let first = 2 * l.k + 1;
-    let end = first + l.n + 2 * l.m;
+    let first = l.w_column(0) as usize + 1;
+    let end = l.pf_column(0) as usize + 1;
     put_buses(&mut starts[first..end], rows, vals, at, gathered, l, bytes)
 }
 
@@ -76,7 +78,7 @@ fn fill_products(
 ) -> usize
     requires { ⌜ Laid l (now bytes) ⌝ }
     requires { ⌜ at < 500000 ⌝ }
-    ensures { λ x. ⌜ Columns (productColumns (netOf l (now (bytes .entry)))) (2 * l .k + l .n) (now (starts .entry)) (cellOut (now (rows .entry)) (now (vals .entry)) at) (now (starts .exit)) (cellOut (now (rows .exit)) (now (vals .exit)) x) ⌝ }
+    ensures { λ x. ⌜ Columns (productColumns (netOf l (now (bytes .entry)))) (layoutColumn l (Wr 0)) (now (starts .entry)) (cellOut (now (rows .entry)) (now (vals .entry)) at) (now (starts .exit)) (cellOut (now (rows .exit)) (now (vals .exit)) x) ⌝ }
     ensures { λ x. ⌜ x ≤ at + 14 * l .m ⌝ }
 {
     let next = put_wrs(starts, rows, vals, at, l, bytes);
@@ -94,13 +96,13 @@ fn fill_flows(
 ) -> usize
     requires { ⌜ Laid l (now bytes) ⌝ }
     requires { ⌜ at < 700000 ⌝ }
-    ensures { λ x. ⌜ Columns (flowColumns (netOf l (now (bytes .entry)))) (2 * l .k + l .n + 2 * l .m) (now (starts .entry)) (cellOut (now (rows .entry)) (now (vals .entry)) at) (now (starts .exit)) (cellOut (now (rows .exit)) (now (vals .exit)) x) ⌝ }
+    ensures { λ x. ⌜ Columns (flowColumns (netOf l (now (bytes .entry)))) (layoutColumn l (Pf 0)) (now (starts .entry)) (cellOut (now (rows .entry)) (now (vals .entry)) at) (now (starts .exit)) (cellOut (now (rows .exit)) (now (vals .exit)) x) ⌝ }
     ensures { λ x. ⌜ x ≤ at + 12 * l .m ⌝ }
 {
-    let pf = 2 * l.k + l.n + 2 * l.m;
-    let pt = pf + l.m;
-    let qf = pt + l.m;
-    let qt = qf + l.m;
+    let pf = l.pf_column(0) as usize;
+    let pt = l.pt_column(0) as usize;
+    let qf = l.qf_column(0) as usize;
+    let qt = l.qt_column(0) as usize;
     let a1 = put_flows(starts, rows, vals, pf, at, l, bytes, OhmRow::Pf);
     let a2 = put_flows(starts, rows, vals, pt, a1, l, bytes, OhmRow::Pt);
     let a3 = put_flows(starts, rows, vals, qf, a2, l, bytes, OhmRow::Qf);
@@ -118,7 +120,7 @@ fn fill_branches(
 ) -> usize
     requires { ⌜ Laid l (now bytes) ⌝ }
     requires { ⌜ at < 300000 ⌝ }
-    ensures { λ x. ⌜ Columns (branchColumns (netOf l (now (bytes .entry)))) (2 * l .k + l .n) (now (starts .entry)) (cellOut (now (rows .entry)) (now (vals .entry)) at) (now (starts .exit)) (cellOut (now (rows .exit)) (now (vals .exit)) x) ⌝ }
+    ensures { λ x. ⌜ Columns (branchColumns (netOf l (now (bytes .entry)))) (layoutColumn l (Wr 0)) (now (starts .entry)) (cellOut (now (rows .entry)) (now (vals .entry)) at) (now (starts .exit)) (cellOut (now (rows .exit)) (now (vals .exit)) x) ⌝ }
     ensures { λ x. ⌜ x ≤ at + 26 * l .m + l .s ⌝ }
 {
     let a1 = fill_products(starts, rows, vals, at, l, bytes);
@@ -179,7 +181,7 @@ pub fn fill_a(
     bytes: &[u8],
 ) -> usize
     requires { ⌜ Laid l (now bytes) ⌝ }
-    requires { ⌜ 2 * l .k + l .n + 2 * l .m + 1 ≤ length (now starts) ⌝ }
+    requires { ⌜ layoutColumn l (Pf 0) + 1 ≤ length (now starts) ⌝ }
     requires { ⌜ Roomy l (now bytes) (now vals) ⌝ }
     ensures { λ x. ⌜ Whole (matrix (netOf l (now (bytes .entry)))) (now (starts .entry)) (now (rows .entry)) (now (vals .entry)) (now (starts .exit)) (now (rows .exit)) (now (vals .exit)) x ⌝ }
     ensures { λ x. ⌜ x ≤ mostA l ⌝ }

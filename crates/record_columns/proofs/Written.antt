@@ -1,5 +1,5 @@
 -- The code's cells are the columns' cells. Assumes nothing.
-use Prim.Native.Nat.{ℕ, _+_, _*_, _≤_, _<_}
+use Prim.Native.Nat.{ℕ, _+_, _≤_, _<_}
 use mathlib.Core.Path.{_≡_, refl, ap, ap₂}
 use mathlib.Core.Bool.{Bool, true, false}
 use mathlib.Core.List.{List, [], _∷_}
@@ -13,12 +13,13 @@ use Rattle.lists.proofs.Sums.{bit-le}
 use Rattle.records.specs.AcNetwork.{AcNetwork}
 use Rattle.records.specs.Fields.{slopeOf}
 use Rattle.records.proofs.Segments.{segment-record}
-use Rattle.numbering.specs.Blocks.{before}
-use Rattle.numbering.specs.Layout.{layoutRows}
+use Rattle.numbering.specs.Layout.{layoutRow}
 use Rattle.numbering.specs.Numbering.{rowNumber}
 use Rattle.numbering.specs.Laid.{netOf, Laid}
 use Rattle.numbering.specs.declared.SocWrLayout.{SocWrLayout}
-use Rattle.numbering.specs.declared.RowName.the-variants.{Segment, Thermal}
+use Rattle.numbering.specs.declared.RowName.the-variants.{Segment}
+use Rattle.numbering.proofs.Numbers.{row-number, layout-row}
+use Rattle.numbering.proofs.Laid.{limits-are}
 use Rattle.rows.specs.Rows.{wr, wi, ohmValue, zero64, minusOne, constant64}
 use Rattle.matrix.specs.Columns.{nonzeroCell, oneCell, slopeCell, costCell, costCells, ohmCells}
 use Rattle.branch.specs.declared.Series.{Series}
@@ -38,22 +39,19 @@ module _ (l : SocWrLayout) (bytes : List ℕ) where
   G = netOf l bytes
 
   -- a generator's segments start behind those of the generators before it
-  pub slopes-are : (g : ℕ) {first row n : ℕ} → first ≡ l .n + l .m + l .k + sum g (G .segments) → row ≡ before (layoutRows l) 14 + sum g (G .segments) → n ≡ G .segments g
+  segment-at : (g t : ℕ) → layoutRow l (Segment (sum g (G .segments)) 0) + t ≡ rowNumber G (Segment g t)
+  segment-at g t = omega (arith, layout-row l (Segment (sum g (G .segments)) 0), row-number G (Segment g t))
+
+  pub slopes-are : (g : ℕ) {first row n : ℕ} → first ≡ l .n + l .m + l .k + sum g (G .segments) → row ≡ layoutRow l (Segment (sum g (G .segments)) 0) → n ≡ G .segments g
       → each n (slopes bytes first row) ≡ each (G .segments g) (slopeCell G g)
   unfolding slopes slopeCell
   slopes-are g p q e =
       rw (q, e) (each-ext _ _ (G .segments g)
-      (λ t h.
-      let r : before (layoutRows l) 14 + sum g (G .segments) + t ≡ rowNumber G (Segment g t) = omega arith in
-      ap₂ (λ (x y : ℕ). nonzeroCell x (slopeOf bytes y)) r (segment-record (l .n) (l .m) (l .k) bytes g t p)))
+      (λ t h. ap₂ (λ (x y : ℕ). nonzeroCell x (slopeOf bytes y)) (segment-at g t) (segment-record (l .n) (l .m) (l .k) bytes g t p)))
 
-  pub costs-are : (g : ℕ) {row n : ℕ} → row ≡ before (layoutRows l) 14 + sum g (G .segments) → n ≡ G .segments g → each n (ones row) ≡ costCells G g
+  pub costs-are : (g : ℕ) {row n : ℕ} → row ≡ layoutRow l (Segment (sum g (G .segments)) 0) → n ≡ G .segments g → each n (ones row) ≡ costCells G g
   unfolding ones costCells costCell
-  costs-are g q e =
-      rw (q, e) (each-ext _ _ (G .segments g)
-      (λ t h.
-      let r : before (layoutRows l) 14 + sum g (G .segments) + t ≡ rowNumber G (Segment g t) = omega arith in
-      ap (λ (x : ℕ). oneCell x (constant64 minusOne)) r))
+  costs-are g q e = rw (q, e) (each-ext _ _ (G .segments g) (λ t h. ap (λ (x : ℕ). oneCell x (constant64 minusOne)) (segment-at g t)))
 
   pub turn-length : (g : ℕ) → length (costTurn G g) ≡ bit (G .piecewise g)
   unfolding costTurn
@@ -77,5 +75,6 @@ module _ (l : SocWrLayout) (bytes : List ℕ) where
   wi-are e p q = rw (p, q)
 
   module _ (laid : Laid l bytes) where
-    pub thermal-row : (e q : ℕ) → before (layoutRows l) 16 + 6 * count e (G .limited) + q ≡ rowNumber G (Thermal e q)
-    thermal-row e q = omega (arith, laid .accepted .counts-add)
+    -- the limited branches up to one are among all
+    pub limited-below : (e : ℕ) → e ≤ l .m → count e (G .limited) ≤ l .t
+    limited-below e h = omega (arith, sum-mono e (l .m) (λ i. bit (G .limited i)) h, limits-are l bytes laid)

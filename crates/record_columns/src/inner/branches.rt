@@ -19,7 +19,9 @@ ghost use Prim.Native.Nat.{_+_, _*_, _≤_, _<_};
 ghost use Rattle.lists.specs.UpTo.{listed, count};
 ghost use Rattle.lists.specs.Compressed.{cellOut, WroteCells};
 ghost use Rattle.numbering.specs.Numbering.{rowNumber};
+ghost use Rattle.numbering.specs.Layout.{layoutColumn};
 ghost use Rattle.numbering.specs.Laid.{netOf, Laid};
+ghost use Rattle.numbering.specs.declared.ColumnName.the-variants.{Wr, Wi};
 ghost use Rattle.matrix.specs.Columns.{wrCells, wiCells, flowCells, balanceRow, thermalPlace};
 ghost use Rattle.branch.specs.Ohm.{rowKind};
 ghost use Rattle.cells.specs.Columns.{Columns};
@@ -91,7 +93,7 @@ fn put_wr(
 {
     let record = l.n + e;
     let p = wr_products(series(bytes, record));
-    let cone = l.jabr_row(e, 0) + 1;
+    let cone = l.jabr_row(e, 1);
     let a1 = put_products(rows, vals, at, l, bytes, e, p);
     let a2 = put_wr_angles(rows, vals, a1, l, bytes, e);
     put(rows, vals, a2, cone, -1.0)
@@ -115,7 +117,7 @@ fn put_wi(
     let on = conic_angle_bound_active(bytes, record);
     let upper = l.angub_row(e);
     let lower = l.anglb_row(e);
-    let cone = l.jabr_row(e, 0) + 2;
+    let cone = l.jabr_row(e, 2);
     let a1 = put_products(rows, vals, at, l, bytes, e, p);
     let a2 = put_bounds(rows, vals, a1, on, upper, lower);
     put(rows, vals, a2, cone, -1.0)
@@ -131,11 +133,11 @@ pub fn put_wrs(
 ) -> usize
     requires { ⌜ Laid l (now bytes) ⌝ }
     requires { ⌜ at < 600000 ⌝ }
-    ensures { λ x. ⌜ Columns (listed (l .m) (wrCells (netOf l (now (bytes .entry))))) (2 * l .k + l .n) (now (starts .entry)) (cellOut (now (rows .entry)) (now (vals .entry)) at) (now (starts .exit)) (cellOut (now (rows .exit)) (now (vals .exit)) x) ⌝ }
+    ensures { λ x. ⌜ Columns (listed (l .m) (wrCells (netOf l (now (bytes .entry))))) (layoutColumn l (Wr 0)) (now (starts .entry)) (cellOut (now (rows .entry)) (now (vals .entry)) at) (now (starts .exit)) (cellOut (now (rows .exit)) (now (vals .exit)) x) ⌝ }
     ensures { λ x. ⌜ x ≤ at + 7 * l .m ⌝ }
 {
     let m = l.m;
-    let col = 2 * l.k + l.n;
+    let col = l.wr_column(0) as usize;
     let mut next = at;
     let mut e = 0;
     while e < m {
@@ -156,11 +158,11 @@ pub fn put_wis(
 ) -> usize
     requires { ⌜ Laid l (now bytes) ⌝ }
     requires { ⌜ at < 600000 ⌝ }
-    ensures { λ x. ⌜ Columns (listed (l .m) (wiCells (netOf l (now (bytes .entry))))) (2 * l .k + l .n + l .m) (now (starts .entry)) (cellOut (now (rows .entry)) (now (vals .entry)) at) (now (starts .exit)) (cellOut (now (rows .exit)) (now (vals .exit)) x) ⌝ }
+    ensures { λ x. ⌜ Columns (listed (l .m) (wiCells (netOf l (now (bytes .entry))))) (layoutColumn l (Wi 0)) (now (starts .entry)) (cellOut (now (rows .entry)) (now (vals .entry)) at) (now (starts .exit)) (cellOut (now (rows .exit)) (now (vals .exit)) x) ⌝ }
     ensures { λ x. ⌜ x ≤ at + 7 * l .m ⌝ }
 {
     let m = l.m;
-    let col = 2 * l.k + l.n + l.m;
+    let col = l.wi_column(0) as usize;
     let mut next = at;
     let mut e = 0;
     while e < m {
@@ -185,7 +187,7 @@ fn balance_row(q: OhmRow, l: SocWrLayout, bytes: &[u8], i: usize) -> u32
     }
 }
 
-fn thermal_place(q: OhmRow) -> u32
+fn thermal_place(q: OhmRow) -> usize
     ensures { λ r. ⌜ r ≡ thermalPlace (rowKind q) ⌝ }
     ensures { λ r. ⌜ r < 6 ⌝ }
 {
@@ -228,12 +230,11 @@ fn put_flow(
 ) -> usize
     requires { ⌜ Laid l (now bytes) ⌝ }
     requires { ⌜ (e < l .m) × (at < 1000000) ⌝ }
-    requires { ⌜ (rank ≡ count e (netOf l (now bytes) .limited)) × (rank ≤ e) ⌝ }
+    requires { ⌜ rank ≡ count e (netOf l (now bytes) .limited) ⌝ }
     ensures { λ x. ⌜ WroteCells (flowCells (netOf l (now (bytes .entry))) (rowKind q) e) (cellOut (now (rows .entry)) (now (vals .entry)) at) (cellOut (now (rows .exit)) (now (vals .exit)) x) ⌝ }
     ensures { λ x. ⌜ x ≤ at + 3 ⌝ }
 {
-    let base = l.thermal_row(0, 0) + 6 * (rank as u32);
-    let thermal = base + thermal_place(q);
+    let thermal = l.thermal_row(rank, thermal_place(q));
     let on = records::inner::thermal_limit_active(bytes, l.n + e);
     let bus = end_bus(q, l, bytes, e);
     let balance = balance_row(q, l, bytes, bus);

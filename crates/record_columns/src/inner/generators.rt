@@ -13,7 +13,9 @@ ghost use Rattle.lists.specs.Compressed.{cellOut, WroteCells};
 ghost use Rattle.matrix.specs.Columns.{pgCells, qgCells};
 ghost use Rattle.cells.specs.Columns.{Columns};
 ghost use Rattle.record_columns.specs.Writers.{bounds, slopes, pgHead, ones, costTurn};
+ghost use Rattle.numbering.specs.Layout.{layoutColumn};
 ghost use Rattle.numbering.specs.Laid.{netOf, Laid};
+ghost use Rattle.numbering.specs.declared.ColumnName.the-variants.{Pg, Qg, CostOf};
 
 // The rows of an upper and a lower bound, where they are active.
 pub fn put_bounds(
@@ -125,9 +127,9 @@ fn put_pg(
     ensures { λ x. ⌜ x ≤ at + 3 + count ⌝ }
 {
     let first = l.n + l.m + l.k + seg;
-    let base = l.segment_row(0) as usize;
+    let row = l.segment_row(seg) as usize;
     let next = put_pg_head(rows, vals, at, l, bytes, g);
-    put_slopes(rows, vals, next, bytes, first, base + seg, count)
+    put_slopes(rows, vals, next, bytes, first, row, count)
 }
 
 // The pg columns.
@@ -141,25 +143,26 @@ pub fn put_pgs(
 ) -> usize
     requires { ⌜ Laid l (now bytes) ⌝ }
     requires { ⌜ at ≡ 0 ⌝ }
-    ensures { λ x. ⌜ Columns (listed (l .k) (pgCells (netOf l (now (bytes .entry))))) 0 (now (starts .entry)) (cellOut (now (rows .entry)) (now (vals .entry)) at) (now (starts .exit)) (cellOut (now (rows .exit)) (now (vals .exit)) x) ⌝ }
+    ensures { λ x. ⌜ Columns (listed (l .k) (pgCells (netOf l (now (bytes .entry))))) (layoutColumn l (Pg 0)) (now (starts .entry)) (cellOut (now (rows .entry)) (now (vals .entry)) at) (now (starts .exit)) (cellOut (now (rows .exit)) (now (vals .exit)) x) ⌝ }
     ensures { λ x. ⌜ x ≤ 3 * l .k + l .s ⌝ }
 {
     let k = l.k;
     let first = l.n + l.m;
+    let col = l.pg_column(0) as usize;
     let mut next = at;
     let mut seg = 0;
     let mut g = 0;
     while g < k {
         let count = records::inner::segments(bytes, first + g);
         next = put_pg(rows, vals, next, l, bytes, g, seg, count);
-        store_u32(starts, g + 1, next as u32);
+        store_u32(starts, col + g + 1, next as u32);
         seg += count;
         g += 1;
     }
     next
 }
 
-// The qg columns, from column k on.
+// The qg columns.
 pub fn put_qgs(
     starts: &mut [u32],
     rows: &mut [u32],
@@ -170,15 +173,16 @@ pub fn put_qgs(
 ) -> usize
     requires { ⌜ Laid l (now bytes) ⌝ }
     requires { ⌜ at < 900000 ⌝ }
-    ensures { λ x. ⌜ Columns (listed (l .k) (qgCells (netOf l (now (bytes .entry))))) (l .k) (now (starts .entry)) (cellOut (now (rows .entry)) (now (vals .entry)) at) (now (starts .exit)) (cellOut (now (rows .exit)) (now (vals .exit)) x) ⌝ }
+    ensures { λ x. ⌜ Columns (listed (l .k) (qgCells (netOf l (now (bytes .entry))))) (layoutColumn l (Qg 0)) (now (starts .entry)) (cellOut (now (rows .entry)) (now (vals .entry)) at) (now (starts .exit)) (cellOut (now (rows .exit)) (now (vals .exit)) x) ⌝ }
     ensures { λ x. ⌜ x ≤ at + 3 * l .k ⌝ }
 {
     let k = l.k;
+    let col = l.qg_column(0) as usize;
     let mut next = at;
     let mut g = 0;
     while g < k {
         next = put_qg(rows, vals, next, l, bytes, g);
-        store_u32(starts, k + g + 1, next as u32);
+        store_u32(starts, col + g + 1, next as u32);
         g += 1;
     }
     next
@@ -234,12 +238,12 @@ pub fn put_costs(
 ) -> usize
     requires { ⌜ Laid l (now bytes) ⌝ }
     requires { ⌜ at < 900000 ⌝ }
-    ensures { λ x. ⌜ Columns (each (l .k) (costTurn (netOf l (now (bytes .entry))))) (2 * l .k + l .n + 6 * l .m) (now (starts .entry)) (cellOut (now (rows .entry)) (now (vals .entry)) at) (now (starts .exit)) (cellOut (now (rows .exit)) (now (vals .exit)) x) ⌝ }
+    ensures { λ x. ⌜ Columns (each (l .k) (costTurn (netOf l (now (bytes .entry))))) (layoutColumn l (CostOf 0)) (now (starts .entry)) (cellOut (now (rows .entry)) (now (vals .entry)) at) (now (starts .exit)) (cellOut (now (rows .exit)) (now (vals .exit)) x) ⌝ }
     ensures { λ x. ⌜ x ≤ at + l .s ⌝ }
 {
     let k = l.k;
     let base = l.segment_row(0) as usize;
-    let mut c = 2 * l.k + l.n + 6 * l.m;
+    let mut c = l.cost_column(0) as usize;
     let mut next = at;
     let mut seg = 0;
     let mut g = 0;

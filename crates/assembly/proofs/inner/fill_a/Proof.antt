@@ -1,10 +1,12 @@
--- `assembly::inner::fill_a` meets its contract. Assumes nothing.
+-- `assembly::inner::fill_a` meets its contract: the three parts are all of A, each starts where the one before it ends, and the last covers what the second left ahead. Assumes nothing.
 use borrow.Author.Needs.{needs}
 use native.Mathlib.Omega.{arith}
 use mathlib.Core.List.{append-assoc}
 use mathlib.Core.Logic.{⊎-elim}
 use denote.Ref.{now}
 use Rattle.lists.proofs.Compressed.{joined-listed}
+use Rattle.numbering.specs.declared.ColumnName.the-variants.{Pg, W, Wr}
+use Rattle.numbering.proofs.Numbers.{layout-column}
 use Rattle.matrix.specs.Columns.{wCells}
 use Rattle.cells.proofs.Fills.{listed-length}
 use Rattle.cells.proofs.Ends.{columns-then, columns-pos}
@@ -34,10 +36,13 @@ returns c =
     let G = netOf (a .l) b in
     let lg = generators-length (a .l) b in
     let lw = listed-length (wCells G) (a .l .n) in
-    let g = rw (c .before .before .before .before .before .before .before .before .before .before .before .before .before .before .before .before .before .before .before .before .before .before .before .before .before .before .before .before .before .before .before .before .store-u32 .ensures) at (c .before .before .before .before .before .before .before .before .before .before .before .before .before .before .before .before .before .before .before .before .before .before .before .before .before .before .fill-generators .ensures .0) in
+    let pg = layout-column (a .l) (Pg 0) in
+    let w₀ = layout-column (a .l) (W 0) in
+    let wr = layout-column (a .l) (Wr 0) in
+    let g = rw (pg, c .before .before .before .before .before .before .before .before .before .before .before .before .before .before .before .before .before .before .before .before .before .before .before .before .before .before .before .before .before .before .before .before .store-u32 .ensures) at (c .before .before .before .before .before .before .before .before .before .before .before .before .before .before .before .before .before .before .before .before .before .before .before .before .before .before .fill-generators .ensures .0) in
     let h = c .before .before .before .before .before .before .before .before .before .before .before .before .before .before .before .before .fill-buses .ensures .0 in
-    let w = ahead-then h (omega (arith, lw)) (branches-many (a .l) b) (rw (h .next, joined-listed) (omega (arith, ahead-covered (a .l) b (c .before .before .before .before .before .before .before .before .before .before .before .before .before .before .before .before .before .before .before .before .before .before .before .before .before .before .before .before .before .before .before .before .before .before .before .before .before .before .pre .0)))) (c .before .before .before .before .before .before .fill-branches .ensures .0) in (
-      record { columns = rw (matrix-parts (a .l) b (c .before .before .before .before .before .before .before .before .before .before .before .before .before .before .before .before .before .before .before .before .before .before .before .before .before .before .before .before .before .before .before .before .before .before .before .before .before .before .pre .0), append-assoc) (columns-then g (omega (arith, lg)) w) },
+    let w = ahead-then h (omega (arith, lw, w₀, wr)) (branches-many (a .l) b) (rw (h .next, joined-listed) (omega (arith, ahead-covered (a .l) b (c .before .before .before .before .before .before .before .before .before .before .before .before .before .before .before .before .before .before .before .before .before .before .before .before .before .before .before .before .before .before .before .before .before .before .before .before .before .before .pre .0)))) (c .before .before .before .before .before .before .fill-branches .ensures .0) in (
+      record { columns = rw (matrix-parts (a .l) b (c .before .before .before .before .before .before .before .before .before .before .before .before .before .before .before .before .before .before .before .before .before .before .before .before .before .before .before .before .before .before .before .before .before .before .before .before .before .before .pre .0), append-assoc) (columns-then g (omega (arith, lg, w₀)) w) },
       omega (arith, c .before .before .before .before .before .before .before .before .before .before .before .before .before .before .before .before .before .before .before .before .before .before .before .before .before .before .fill-generators .ensures .1, c .before .before .before .before .before .before .before .before .before .before .before .before .before .before .before .before .fill-buses .ensures .1, c .before .before .before .before .before .before .fill-branches .ensures .1),
     )
 

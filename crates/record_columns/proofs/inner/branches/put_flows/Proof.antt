@@ -27,7 +27,10 @@ unfolding upTo
 loop-holds c = (omega arith, refl, refl, omega arith, omega arith, columns-none (flowCells (netOf (c .before .before .before .before .args .l) (now (c .before .before .before .before .args .bytes))) (rowKind (c .before .before .before .before .args .q))))
 
 put-flow-requires : tie.Need-put-flow-requires Inv-loop μ-loop
-put-flow-requires c κs = (c .before .before .before .before .before .before .before .before .pre .0, ((omega arith, omega (arith, c .before .before .before .loop .inv .4, c .before .before .before .before .before .before .before .before .pre .1, c .before .before .before .before .before .before .before .before .pre .0 .range .m-range)), (c .before .before .before .loop .inv .2, c .before .before .before .loop .inv .3)))
+put-flow-requires c κs =
+    let s = c .before .before .before .before .before .before .before .before in
+    let o = c .before .before .before .loop .inv in
+    (s .pre .0, ((omega arith, omega (arith, o .4, s .pre .1, s .pre .0 .range .m-range)), o .2))
 
 cast-store-u32 : tie.Need-cast-store-u32 Inv-loop μ-loop
 cast-store-u32 c = omega (arith, c .before .before .before .before .before .put-flow .ensures .1, c .before .before .before .before .before .before .before .before .before .loop .inv .4, c .before .before .before .before .before .before .before .before .before .before .before .before .before .before .pre .1, c .before .before .before .before .before .before .before .before .before .before .before .before .before .before .pre .0 .range .m-range)
