@@ -9,7 +9,7 @@ use lib.Ieee.{Float}
 use Rattle.lists.specs.UpTo.{each, when, sum, bit, count}
 use Rattle.lists.specs.Compressed.{CellOut}
 use Rattle.lists.proofs.Each.{each-ext}
-use Rattle.lists.proofs.Sums.{bit-le}
+use Rattle.lists.proofs.Sums.{bit-le, sum-mono}
 use Rattle.records.specs.AcNetwork.{AcNetwork}
 use Rattle.records.specs.Fields.{slopeOf}
 use Rattle.records.proofs.Segments.{segment-record}
