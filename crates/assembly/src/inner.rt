@@ -23,7 +23,7 @@ ghost use Rattle.cells.specs.Columns.{Columns, Whole};
 ghost use Rattle.bus_columns.specs.Counts.{ownCells, fromCells, toCells};
 ghost use Rattle.assembly.specs.Ahead.{Ahead};
 ghost use Rattle.assembly.specs.Parts.{generatorColumns, productColumns, flowColumns, branchColumns, mostA, Roomy};
-ghost use Rattle.numbering.specs.Layout.{layoutColumn};
+ghost use Rattle.numbering.specs.Layout.{layoutColumn, nvarOf};
 ghost use Rattle.numbering.specs.Laid.{netOf, Laid};
 ghost use Rattle.numbering.specs.declared.ColumnName.the-variants.{Pg, W, Wr, Pf};
 
@@ -181,7 +181,7 @@ pub fn fill_a(
     bytes: &[u8],
 ) -> usize
     requires { ⌜ Laid l (now bytes) ⌝ }
-    requires { ⌜ layoutColumn l (Pf 0) + 1 ≤ length (now starts) ⌝ }
+    requires { ⌜ nvarOf l + 1 ≤ length (now starts) ⌝ }
     requires { ⌜ Roomy l (now bytes) (now vals) ⌝ }
     ensures { λ x. ⌜ Whole (matrix (netOf l (now (bytes .entry)))) (now (starts .entry)) (now (rows .entry)) (now (vals .entry)) (now (starts .exit)) (now (rows .exit)) (now (vals .exit)) x ⌝ }
     ensures { λ x. ⌜ x ≤ mostA l ⌝ }
