@@ -22,7 +22,7 @@ use Rattle.numbering.specs.declared.RowName.the-variants.{Jabr, Thermal}
 use Rattle.rows.specs.Rows.{kept, terms, zero64}
 use Rattle.rows.specs.Program.{thermalFrom, thermalTo, secondOrder, nonzero, quadratic, slack}
 use Rattle.kkt.specs.Kkt.{kktRow, scaled, coneRow, coneBlock, kktOf, kkt}
-use Rattle.kkt.proofs.KktCones.{gone}
+use Rattle.demand3.proofs.KktCones.{gone}
 use Rattle.examples.specs.Networks.{q}
 use Rattle.examples.specs.Table.{Q, valuesAt, bits, zF, kktF}
 

@@ -13,8 +13,9 @@ use Rattle.entries.proofs.kkt_entries.Tie as tie
 returns : tie.Need-returns
 unfolding kktCheck
 returns c =
-    let p = c .before .before .before .check-layout .ensures in
-    let a = c .before .before .before .before .args in
+    let told = c .before .before .before in
+    let p = told .check-layout .ensures in
+    let a = told .before .before .before .before .before .before .before .args in
     (rw (← p .check) (stopped _ _ (sym (c .before .before .is-refused .ensures) ∙ c .before .if1 .taken) (c .written-if .ensures)),
     demand3 (a .n) (a .m) (a .k) (a .s) (now (a .bytes)) (now (a .x)) (now (a .z)))
 
@@ -26,8 +27,9 @@ kkt-checked-requires c κs =
 returns-2 : tie.Need-returns-2
 unfolding kktCheck
 returns-2 c =
-    let p = c .before .before .before .before .before .before .before .before .before .before .before .before .check-layout .ensures in
-    let a = c .before .before .before .before .before .before .before .before .before .before .before .before .before .args in
+    let told = c .before .before .before .before .before .before .before .before .before .before .before .before in
+    let p = told .check-layout .ensures in
+    let a = told .before .before .before .before .before .before .before .args in
     let ok = accepted-by (p .check) (c .before .before .before .before .before .before .before .before .before .before .before .is-refused .ensures) (c .before .before .before .before .before .before .before .before .before .before .if1 .left) in
     (went-on ok (rw (pass-layout p ok) at (c .before .before .before .before .before .before .kkt-checked .ensures)),
     demand3 (a .n) (a .m) (a .k) (a .s) (now (a .bytes)) (now (a .x)) (now (a .z)))
