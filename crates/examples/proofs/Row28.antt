@@ -15,7 +15,8 @@ use Rattle.records.specs.Bytes.{le16, le32, le64}
 use Rattle.records.specs.Fields.{flagsOf, countOf, firstOf, secondOf, bitsOf, floatOf, flagBit, gOf, bOf, gFrOf, bFrOf, gToOf, bToOf, tapOf, limitedOf, piecewiseOf, segmentsOf, angledOf}
 use Rattle.records.specs.AcNetwork.{AcNetwork}
 use Rattle.records.specs.Network.{branchOf, segmentRecord}
-use Rattle.numbering.specs.Numbering.{nvar, columnNumber, rowNumber}
+use Rattle.numbering.specs.Blocks.{start, size, before, total, numberOf}
+use Rattle.numbering.specs.Numbering.{columnTable, rowTable, columnBlocks, rowBlocks, nvar, ncon, columnNumber, rowNumber}
 use Rattle.numbering.specs.declared.ColumnName.the-variants.{Wr, Wi}
 use Rattle.numbering.specs.declared.RowName.{RowName}
 use Rattle.numbering.specs.declared.RowName.the-variants.{Jabr, Thermal}
@@ -69,15 +70,15 @@ abbrev G : AcNetwork Float
 G = Q q
 
 columns : nvar G ≡ 10
-unfolding q upTo le16 le32 flagsOf countOf flagBit piecewiseOf segmentsOf
+unfolding q upTo le16 le32 flagsOf countOf flagBit piecewiseOf segmentsOf start size before total numberOf columnTable rowTable columnBlocks rowBlocks nvar ncon columnNumber rowNumber
 columns = refl
 
 jabr : (l : ℕ) → rowNumber G (Jabr 0 l) ≡ 18 + l
-unfolding q upTo le16 le32 flagsOf countOf flagBit piecewiseOf segmentsOf
+unfolding q upTo le16 le32 flagsOf countOf flagBit piecewiseOf segmentsOf start size before total numberOf columnTable rowTable columnBlocks rowBlocks nvar ncon columnNumber rowNumber
 jabr l = omega arith
 
 thermal : (l : ℕ) → rowNumber G (Thermal 0 l) ≡ 22 + l
-unfolding q upTo le16 le32 flagsOf countOf flagBit limitedOf piecewiseOf segmentsOf
+unfolding q upTo le16 le32 flagsOf countOf flagBit limitedOf piecewiseOf segmentsOf start size before total numberOf columnTable rowTable columnBlocks rowBlocks nvar ncon columnNumber rowNumber
 thermal l = omega arith
 
 -- ---- KKT row 28, at any slacks and duals
@@ -87,7 +88,7 @@ module _ (s z : RowName → Float) (c : ℕ) where
   other d p x num j h = none-named 28 c _ (gone G s z d p x num 28 c j (λ e. h (omega (arith, num j, columns))))
 
   cones-only : valuesAt 28 c (kktOf G s z) ≡ valuesAt 28 c (secondOrder G (coneBlock G s z))
-  unfolding q upTo le16 le32 le64 flagsOf countOf firstOf secondOf bitsOf flagBit piecewiseOf limitedOf segmentsOf floatOf gOf bOf gFrOf bFrOf gToOf bToOf tapOf angledOf branchOf
+  unfolding q upTo le16 le32 le64 flagsOf countOf firstOf secondOf bitsOf flagBit piecewiseOf limitedOf segmentsOf floatOf gOf bOf gFrOf bFrOf gToOf bToOf tapOf angledOf branchOf start size before total numberOf columnTable rowTable columnBlocks rowBlocks nvar ncon columnNumber rowNumber
       kept terms ofBits neg mul div add sub ne eq le lt segmentRecord quadratic kktOf valuesAt
   cones-only = refl
 
@@ -106,11 +107,11 @@ module _ (s z : RowName → Float) (c : ℕ) where
   by l = when (ne (z (Jabr 0 l)) zero64) (scaled G (kktRow G (Jabr 0 0)) (neg (z (Jabr 0 l))) (terms G (Jabr 0 l)))
 
   by-wr : c < 4 → valuesAt 28 c (by 1) ≡ []
-  unfolding terms
+  unfolding terms start size before total numberOf columnTable rowTable columnBlocks rowBlocks nvar ncon columnNumber rowNumber
   by-wr h = none-when 28 c (ne (z (Jabr 0 1)) zero64) _ (other-column 28 c (kktRow G (Jabr 0 0)) (columnNumber G (Wr 0)) _ (λ e. omega arith))
 
   by-wi : c < 4 → valuesAt 28 c (by 2) ≡ []
-  unfolding terms
+  unfolding terms start size before total numberOf columnTable rowTable columnBlocks rowBlocks nvar ncon columnNumber rowNumber
   by-wi h = none-when 28 c (ne (z (Jabr 0 2)) zero64) _ (other-column 28 c (kktRow G (Jabr 0 0)) (columnNumber G (Wi 0)) _ (λ e. omega arith))
 
   abbrev diagonal : ℕ → List Entry
@@ -145,11 +146,11 @@ module _ (x z : List Float) where
   in-F c h = row28 (slack G x) duals c h
 
   found2 : found 2 ≡ 0x3fe0000000000000 ∷ 0x3fe0000000000000 ∷ []
-  unfolding q upTo le16 le32 le64 flagsOf countOf firstOf secondOf bitsOf flagBit piecewiseOf segmentsOf floatOf terms ofBits toBits neg mul ne eq valuesAt
+  unfolding q upTo le16 le32 le64 flagsOf countOf firstOf secondOf bitsOf flagBit piecewiseOf segmentsOf floatOf terms ofBits toBits neg mul ne eq valuesAt start size before total numberOf columnTable rowTable columnBlocks rowBlocks nvar ncon columnNumber rowNumber
   found2 = refl
 
   found3 : found 3 ≡ 0x3fe0000000000000 ∷ 0xbfe0000000000000 ∷ []
-  unfolding q upTo le16 le32 le64 flagsOf countOf firstOf secondOf bitsOf flagBit piecewiseOf segmentsOf floatOf terms ofBits toBits neg mul ne eq valuesAt
+  unfolding q upTo le16 le32 le64 flagsOf countOf firstOf secondOf bitsOf flagBit piecewiseOf segmentsOf floatOf terms ofBits toBits neg mul ne eq valuesAt start size before total numberOf columnTable rowTable columnBlocks rowBlocks nvar ncon columnNumber rowNumber
   found3 = refl
 
   pub column2 : valuesAt 28 2 (kktF x z) ≡ 0x3fe0000000000000 ∷ 0x3fe0000000000000 ∷ []

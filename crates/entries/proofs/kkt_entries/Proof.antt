@@ -15,9 +15,10 @@ unfolding kktCheck
 returns c =
     let told = c .before .before .before in
     let p = told .check-layout .ensures in
-    let a = told .before .before .before .before .before .before .before .args in
-    (rw (← p .check) (stopped _ _ (sym (c .before .before .is-refused .ensures) ∙ c .before .if1 .taken) (c .written-if .ensures)),
-    demand3 (a .n) (a .m) (a .k) (a .s) (now (a .bytes)) (now (a .x)) (now (a .z)))
+    let a = told .before .before .before .before .before .before .before .args in (
+      rw (← p .check) (stopped _ _ (sym (c .before .before .is-refused .ensures) ∙ c .before .if1 .taken) (c .written-if .ensures)),
+      demand3 (a .n) (a .m) (a .k) (a .s) (now (a .bytes)) (now (a .x)) (now (a .z)),
+    )
 
 kkt-checked-requires : tie.Need-kkt-checked-requires
 kkt-checked-requires c κs =
@@ -30,9 +31,10 @@ returns-2 c =
     let told = c .before .before .before .before .before .before .before .before .before .before .before .before in
     let p = told .check-layout .ensures in
     let a = told .before .before .before .before .before .before .before .args in
-    let ok = accepted-by (p .check) (c .before .before .before .before .before .before .before .before .before .before .before .is-refused .ensures) (c .before .before .before .before .before .before .before .before .before .before .if1 .left) in
-    (went-on ok (rw (pass-layout p ok) at (c .before .before .before .before .before .before .kkt-checked .ensures)),
-    demand3 (a .n) (a .m) (a .k) (a .s) (now (a .bytes)) (now (a .x)) (now (a .z)))
+    let ok = accepted-by (p .check) (c .before .before .before .before .before .before .before .before .before .before .before .is-refused .ensures) (c .before .before .before .before .before .before .before .before .before .before .if1 .left) in (
+      went-on ok (rw (pass-layout p ok) at (c .before .before .before .before .before .before .kkt-checked .ensures)),
+      demand3 (a .n) (a .m) (a .k) (a .s) (now (a .bytes)) (now (a .x)) (now (a .z)),
+    )
 
 pub kkt-entries-spec : {M : Type 1} → statement M
 kkt-entries-spec = tie.close (tie.spec (λ c κs. search needs) (λ c κs. search needs) (λ c κs. search needs) returns kkt-checked-requires (λ c. search needs) (λ c. search needs) (λ c. search needs) returns-2)

@@ -47,9 +47,11 @@ returns c =
     let p = c .before .before .before .before .before .before .before .before .before .before .pf-column .ensures in
     let o = c .before .before .before .before .before .before .put-buses in
     let e : c .before .before .before .before .before .before .before .before .before .before .pf-column .result + 1 ≡ first + 1 + a .l .n + 2 * a .l .m = omega (arith, w, p, layout-column (a .l) (W 0), layout-column (a .l) (Pf 0)) in
-    let cells = rw (sym (joined-listed (a .l .n) (wCells G))) at (o .ensures .0) in
-    (rw (← w, e) (part-ahead {c = first} {n = a .l .n} {used = 2 * a .l .m} (o .last .0) (each (a .l .m) (fourOf G)) (omega (arith, e, p, h)) (listed-length (wCells G) (a .l .n)) cells (omega arith)
-    (omega (arith, fours-length G (a .l .m), c .before .before .before .before .before .before .before .before .before .before .before .before .before .count-buses .ensures .0)) (o .ensures .1 .0) (omega (arith, o .kept, e))), o .ensures .1 .1)
+    let cells = rw (sym (joined-listed (a .l .n) (wCells G))) at (o .ensures .0) in (
+      rw (← w, e) (part-ahead {c = first} {n = a .l .n} {used = 2 * a .l .m} (o .last .0) (each (a .l .m) (fourOf G)) (omega (arith, e, p, h)) (listed-length (wCells G) (a .l .n)) cells (omega arith)
+          (omega (arith, fours-length G (a .l .m), c .before .before .before .before .before .before .before .before .before .before .before .before .before .count-buses .ensures .0)) (o .ensures .1 .0) (omega (arith, o .kept, e))),
+      o .ensures .1 .1,
+    )
 
 pub fill-buses-spec : {M : Type 1} → statement M
 fill-buses-spec = tie.close (tie.spec (λ c κs. search needs) (λ c. search needs) (λ c. search needs) (λ c. search needs) (λ c κs. search needs) (λ c. search needs) (λ c. search needs) (λ c κs. search needs) (λ c. search needs) (λ c. search needs) (λ c. search needs) sub-put-buses part-put-buses-start (λ c. search needs) put-buses-requires (λ c. search needs) (λ c. search needs) (λ c. search needs) returns)
