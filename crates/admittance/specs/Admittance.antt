@@ -3,13 +3,13 @@ use Prim.Native.Nat.{ℕ}
 use mathlib.Core.List.{List, [], _∷_, _++_}
 use lib.ListN.{getD}
 use lib.Ieee.{Float, binary64, nan, mul}
-use Rattle.records.specs.AcNetwork.{AcNetwork}
+use Rattle.records.specs.AcNetwork.{AcNetwork, branchAt}
 use Rattle.numbering.specs.Numbering.{columnNumber, rowNumber}
 use Rattle.numbering.specs.declared.ColumnName.{ColumnName}
 use Rattle.numbering.specs.declared.ColumnName.the-variants.{W}
 use Rattle.numbering.specs.declared.RowName.{RowName}
 use Rattle.numbering.specs.declared.RowName.the-variants.{Pbal, Qbal}
-use Rattle.rows.specs.Ops.{rounded}
+use Rattle.ring.specs.Ops.{rounded}
 use Rattle.rows.specs.Rows.{Constant, one, minusOne, constant64, value64, ohmRow, ohmColumn}
 use Rattle.kkt.specs.Kkt.{kktRow}
 use Rattle.interface.specs.declared.GB.{GB}
@@ -54,5 +54,5 @@ module _ (G : AcNetwork Float) where
     -- the ten entries of a branch's series admittance
     abbrev pub seriesStores : GB → ℕ → List Store
     seriesStores gb e =
-        inTurn (λ d. landed (ohmRow (d .row) e) (ohmColumn G (d .row) (d .place) e) (value64 (G .branch e .tm2) (d .value)))
-        (series rounded (G .branch e .tr) (G .branch e .ti) gb)
+        inTurn (λ d. landed (ohmRow (d .row) e) (ohmColumn G (d .row) (d .place) e) (value64 (branchAt rounded G e .tm2) (d .value)))
+        (series rounded (branchAt rounded G e .tr) (branchAt rounded G e .ti) gb)

@@ -9,7 +9,7 @@ use Rattle.numbering.specs.declared.SocWrLayout.{SocWrLayout}
 use Rattle.numbering.specs.declared.ColumnName.the-variants.{W, Wr, Wi}
 use Rattle.numbering.specs.declared.RowName.{RowName}
 use Rattle.numbering.specs.declared.RowName.the-variants.{OhmPf, OhmQf, OhmPt, OhmQt}
-use Rattle.rows.specs.Ops.{rounded}
+use Rattle.ring.specs.Ops.{rounded}
 use Rattle.rows.specs.Rows.{value64, OhmRow, pf, qf, pt, qt, OhmPlace, w, wr, wi, flow}
 use Rattle.interface.specs.declared.GB.{GB}
 use Rattle.admittance.specs.Stores.{Store, plus}

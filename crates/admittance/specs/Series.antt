@@ -1,6 +1,6 @@
 -- The ten entries of dA by a branch's series conductance or susceptance (`parameter_jacobian`, SeriesAdmittance), in the order of the code.
 use mathlib.Core.List.{List, [], _∷_}
-use Rattle.rows.specs.Ops.{Ops}
+use Rattle.ring.specs.Ops.{Ops}
 use Rattle.rows.specs.Rows.{Coefficient, over, constant, one, minusOne, OhmRow, pf, qf, pt, qt, OhmPlace, w, wr, wi}
 use Rattle.interface.specs.declared.GB.{GB}
 use Rattle.interface.specs.declared.GB.the-variants.{Conductance, Susceptance}

@@ -11,7 +11,8 @@ use Rattle.lists.specs.Entries.{Cell, cellVal}
 use Rattle.lists.specs.Compressed.{cellOut, WroteCells}
 use Rattle.lists.proofs.Each.{part-each}
 use Rattle.lists.proofs.Compressed.{valsOf, vals-sets, len-vals, pos}
-use Rattle.records.specs.AcNetwork.{AcNetwork}
+use Rattle.ring.specs.Ops.{rounded}
+use Rattle.records.specs.AcNetwork.{AcNetwork, branchAt}
 use Rattle.rows.specs.Rows.{OhmRow, pf, qf, pt, qt, w, ohmValue}
 use Rattle.cells.specs.Filled.{Filled}
 use Rattle.bus_columns.specs.Gathered.{placeOf, fourOf, Gathered}
@@ -38,7 +39,7 @@ module _ (G : AcNetwork Float) where
   unfolding fourOf
   four-length e = refl
 
-  four-at : (e : ℕ) (r : OhmRow) → getD (fourOf G e) (placeOf r) nan ≡ ohmValue (G .branch e) r w
+  four-at : (e : ℕ) (r : OhmRow) → getD (fourOf G e) (placeOf r) nan ≡ ohmValue (branchAt rounded G e) r w
   unfolding fourOf
   four-at e pf = refl
   four-at e qf = refl
@@ -56,7 +57,7 @@ module _ (G : AcNetwork Float) where
   place-below pt = omega arith
   place-below qt = omega arith
 
-  fours-at : (n e : ℕ) (r : OhmRow) → e < n → getD (each n (fourOf G)) (4 * e + placeOf r) nan ≡ ohmValue (G .branch e) r w
+  fours-at : (n e : ℕ) (r : OhmRow) → e < n → getD (each n (fourOf G)) (4 * e + placeOf r) nan ≡ ohmValue (branchAt rounded G e) r w
   fours-at n e r h =
       let xs = each n (fourOf G) in
       let p : take 4 (drop (4 * e) xs) ≡ fourOf G e = rw (four-length e, fours-length e) at (part-each (fourOf G) n e h) in
@@ -69,7 +70,7 @@ module _ (G : AcNetwork Float) where
       record {
         inside = omega (arith, ap length (f .is) ∙ length-sets vs₀ x xs, h);
         at = λ e r k.
-            let q : getD vs (x + (4 * e + placeOf r)) nan ≡ ohmValue (G .branch e) r w =
+            let q : getD vs (x + (4 * e + placeOf r)) nan ≡ ohmValue (branchAt rounded G e) r w =
             rw (f .is) (in-part xs vs₀ x (4 * e + placeOf r) nan (omega (arith, fours-length (G .m), h)) (omega (arith, fours-length (G .m), place-below r, k)) ∙ fours-at (G .m) e r k) in
             let a : x + 4 * e + placeOf r ≡ x + (4 * e + placeOf r) = omega arith in
             rw a q;

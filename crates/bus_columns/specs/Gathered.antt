@@ -6,7 +6,8 @@ use lib.ListN.{length, getD}
 use lib.Seq.{sets}
 use lib.Ieee.{Float, nan}
 use Rattle.lists.specs.UpTo.{each}
-use Rattle.records.specs.AcNetwork.{AcNetwork}
+use Rattle.ring.specs.Ops.{rounded}
+use Rattle.records.specs.AcNetwork.{AcNetwork, branchAt}
 use Rattle.rows.specs.Rows.{OhmRow, pf, qf, pt, qt, w, ohmValue}
 
 -- the place of an Ohm row among a branch's four
@@ -19,7 +20,7 @@ placeOf qt = 3
 module _ (G : AcNetwork Float) where
   -- the four of branch e
   unfoldable pub fourOf : ℕ → List Float
-  fourOf e = ohmValue (G .branch e) pf w ∷ ohmValue (G .branch e) qf w ∷ ohmValue (G .branch e) pt w ∷ ohmValue (G .branch e) qt w ∷ []
+  fourOf e = ohmValue (branchAt rounded G e) pf w ∷ ohmValue (branchAt rounded G e) qf w ∷ ohmValue (branchAt rounded G e) pt w ∷ ohmValue (branchAt rounded G e) qt w ∷ []
 
   -- a list with those of all branches written over it from position x on
   abbrev pub withFours : ℕ → List Float → List Float
@@ -28,4 +29,4 @@ module _ (G : AcNetwork Float) where
   -- they stand in a list from position x on
   pub record Gathered (x : ℕ) (vs : List Float) : Type 0 where
     pub inside : x + 4 * G .m ≤ length vs
-    pub at : (e : ℕ) (r : OhmRow) → e < G .m → getD vs (x + 4 * e + placeOf r) nan ≡ ohmValue (G .branch e) r w
+    pub at : (e : ℕ) (r : OhmRow) → e < G .m → getD vs (x + 4 * e + placeOf r) nan ≡ ohmValue (branchAt rounded G e) r w

@@ -16,7 +16,7 @@ use Rattle.numbering.specs.Numbering.{nvar, ncon, columnNumber, rowNumber}
 use Rattle.numbering.specs.declared.ColumnName.the-variants.{Pg}
 use Rattle.numbering.specs.declared.RowName.{RowName}
 use Rattle.numbering.specs.declared.RowName.the-variants.{Wub, Wlb, Pgub, Pglb, Qgub, Qglb, Thermal}
-use Rattle.rows.specs.Ops.{rounded}
+use Rattle.ring.specs.Ops.{rounded}
 use Rattle.rows.specs.Rows.{one, minusOne, constant64, zero64}
 use Rattle.kkt.specs.Kkt.{kktRow}
 use Rattle.interface.specs.declared.Power.{Power}

@@ -14,7 +14,7 @@ use Rattle.lists.specs.Entries.{Entry, entry, times}
 use Rattle.lists.proofs.Sums.{sum-ext, sum-zeros}
 use Rattle.lists.proofs.Ascending.{Asc, stop, more, asc-from, asc-to, asc-each, once, below, above, elsewhere, times-append, times-each}
 use Rattle.lists.proofs.Zones.{Zone, zone-rows}
-use Rattle.rows.specs.Ops.{rounded}
+use Rattle.ring.specs.Ops.{rounded}
 use Rattle.records.specs.AcNetwork.{AcNetwork}
 use Rattle.numbering.specs.Numbering.{nvar, columnNumber, rowNumber}
 use Rattle.numbering.proofs.Numbers.{column-number, row-number, column-below, column-rises}

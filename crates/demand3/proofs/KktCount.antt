@@ -11,7 +11,7 @@ use lib.Ieee.{Float, binary64, ofBits, neg, ne, eq, mul}
 use Rattle.lists.specs.UpTo.{upTo, each, when, sum, bit}
 use Rattle.lists.specs.Entries.{Entry, entry, turned}
 use Rattle.lists.proofs.Sums.{sum-ext, sum-le, sum-add, sum-ones, each-length, each-le, each-times, double}
-use Rattle.rows.specs.Ops.{rounded}
+use Rattle.ring.specs.Ops.{rounded}
 use Rattle.records.specs.AcNetwork.{AcNetwork}
 use Rattle.numbering.specs.Numbering.{columnNumber, limits}
 use Rattle.rows.specs.Rows.{Constant, constant, one, minusOne, minusHalf, half, Cell, cell, plain, hits, ends, single, cells, zero64, terms}

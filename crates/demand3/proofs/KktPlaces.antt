@@ -14,7 +14,7 @@ use Rattle.lists.specs.Entries.{Entry, entry, turned, times}
 use Rattle.lists.proofs.Sums.{sum-mono, sum-next}
 use Rattle.lists.proofs.Ascending.{Asc, asc-join, times-append, times-turned}
 use Rattle.lists.proofs.Zones.{Zone, zone-nil, _next_, zone-fit, zone-each, zone-rows, zone-row}
-use Rattle.rows.specs.Ops.{rounded}
+use Rattle.ring.specs.Ops.{rounded}
 use Rattle.records.specs.AcNetwork.{AcNetwork}
 use Rattle.numbering.specs.Numbering.{nvar, ncon, columnKey, columnNumber, rowNumber}
 use Rattle.numbering.proofs.Numbers.{column-number, row-number, nvar-number, ncon-number, numbers, HasColumn, column-below, column-rises, row-below}

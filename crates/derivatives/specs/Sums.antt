@@ -6,7 +6,7 @@ use lib.Dec.{eqb}
 use Rattle.records.specs.AcNetwork.{AcNetwork}
 use Rattle.numbering.specs.declared.ColumnName.{ColumnName}
 use Rattle.numbering.specs.declared.ColumnName.the-variants.{W}
-use Rattle.rows.specs.Ops.{Ops}
+use Rattle.ring.specs.Ops.{Ops}
 use Rattle.rows.specs.Rows.{constant, OhmRow, pf, qf, pt, qt, ohmColumn}
 use Rattle.rows.specs.Scaled.{scaled}
 use Rattle.interface.specs.declared.GB.{GB}

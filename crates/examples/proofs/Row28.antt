@@ -13,8 +13,8 @@ use Rattle.lists.specs.UpTo.{upTo, each, when, bit}
 use Rattle.lists.specs.Entries.{Entry, entry, sits, times}
 use Rattle.records.specs.Bytes.{le16, le32, le64}
 use Rattle.records.specs.Fields.{flagsOf, countOf, firstOf, secondOf, bitsOf, floatOf, flagBit, gOf, bOf, gFrOf, bFrOf, gToOf, bToOf, tapOf, limitedOf, piecewiseOf, segmentsOf, angledOf}
-use Rattle.records.specs.AcNetwork.{AcNetwork}
-use Rattle.records.specs.Network.{branchOf, segmentRecord}
+use Rattle.records.specs.AcNetwork.{AcNetwork, gathered}
+use Rattle.records.specs.Network.{branchDataOf, segmentRecord}
 use Rattle.numbering.specs.Blocks.{start, size, before, total, numberOf}
 use Rattle.numbering.specs.Numbering.{columnTable, rowTable, columnBlocks, rowBlocks, nvar, ncon, columnNumber, rowNumber}
 use Rattle.numbering.specs.declared.ColumnName.the-variants.{Wr, Wi}
@@ -88,7 +88,7 @@ module _ (s z : RowName → Float) (c : ℕ) where
   other d p x num j h = none-named 28 c _ (gone G s z d p x num 28 c j (λ e. h (omega (arith, num j, columns))))
 
   cones-only : valuesAt 28 c (kktOf G s z) ≡ valuesAt 28 c (secondOrder G (coneBlock G s z))
-  unfolding q upTo le16 le32 le64 flagsOf countOf firstOf secondOf bitsOf flagBit piecewiseOf limitedOf segmentsOf floatOf gOf bOf gFrOf bFrOf gToOf bToOf tapOf angledOf branchOf start size before total numberOf columnTable rowTable columnBlocks rowBlocks nvar ncon columnNumber rowNumber
+  unfolding q upTo le16 le32 le64 flagsOf countOf firstOf secondOf bitsOf flagBit piecewiseOf limitedOf segmentsOf floatOf gOf bOf gFrOf bFrOf gToOf bToOf tapOf angledOf gathered branchDataOf start size before total numberOf columnTable rowTable columnBlocks rowBlocks nvar ncon columnNumber rowNumber
       kept terms ofBits neg mul div add sub ne eq le lt segmentRecord quadratic kktOf valuesAt
   cones-only = refl
 

@@ -6,7 +6,8 @@ use mathlib.Core.List.{List, [], _∷_, _++_, map, map-append, append-assoc}
 use lib.Ieee.{Float, ne}
 use Rattle.lists.specs.UpTo.{when}
 use Rattle.lists.specs.Entries.{entry}
-use Rattle.records.specs.AcNetwork.{AcNetwork}
+use Rattle.ring.specs.Ops.{rounded}
+use Rattle.records.specs.AcNetwork.{AcNetwork, branchAt}
 use Rattle.numbering.specs.Numbering.{columnNumber, rowNumber}
 use Rattle.numbering.specs.Layout.{layoutColumn}
 use Rattle.numbering.specs.Laid.{netOf, Laid}
@@ -44,7 +45,7 @@ module _ (l : SocWrLayout) (bytes : List ℕ) (h : Laid l bytes) where
 
   -- each row by its own case: its terms compute to the four
   pub ohm-stands : (k : OhmRow) (e : ℕ) → e < l .m → OhmStands G (ohmRow k e)
-      (ohmOf l e (endBus G k e) (rowNumber G (ohmRow k e)) (columnNumber G (flowColumn k e)) (ohmValue (G .branch e) k w) (ohmValue (G .branch e) k wr) (ohmValue (G .branch e) k wi))
+      (ohmOf l e (endBus G k e) (rowNumber G (ohmRow k e)) (columnNumber G (flowColumn k e)) (ohmValue (branchAt rounded G e) k w) (ohmValue (branchAt rounded G e) k wr) (ohmValue (branchAt rounded G e) k wi))
   unfolding terms ohmAt ohmValue
   ohm-stands pf e d = let q = columns (G .from e) e in record { number = refl; entries = λ r. rw (q .0, q .1, q .2) (in-four G r (W (G .from e)) (Wr e) (Wi e) (Pf e) _ _ _); within = row-below G (OhmPf e) d }
   ohm-stands qf e d = let q = columns (G .from e) e in record { number = refl; entries = λ r. rw (q .0, q .1, q .2) (in-four G r (W (G .from e)) (Wr e) (Wi e) (Qf e) _ _ _); within = row-below G (OhmQf e) d }

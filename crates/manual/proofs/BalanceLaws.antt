@@ -7,7 +7,7 @@ use lib.Dec.{eqb}
 use Rattle.lists.specs.UpTo.{upTo, when}
 use lib.IntN.{ℤ, pos, negℤ, _+ℤ_, _-ℤ_, _*ℤ_, +ℤ-idl, +ℤ-assoc, *ℤ-zero}
 use Rattle.ring.specs.Whole.{mul-add}
-use Rattle.rows.specs.Ops.{Ops, whole}
+use Rattle.ring.specs.Ops.{Ops, whole}
 use Rattle.ring.specs.Ring.{E, var, num, opposite, times, ring}
 use Rattle.rows.specs.Formal.{formal}
 use Rattle.rows.specs.Rows.{Coefficient, plain, constant, Constant, one, minusOne, Cell, cell, hits}

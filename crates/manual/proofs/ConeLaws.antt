@@ -7,7 +7,7 @@ use mathlib.Core.List.{List, [], _∷_}
 use lib.Dec.{ltb}
 use lib.IntN.{ℤ, pos, negℤ, _+ℤ_, _-ℤ_, _*ℤ_}
 use lib.Signed.{_≤ℤ_}
-use Rattle.rows.specs.Ops.{whole}
+use Rattle.ring.specs.Ops.{whole}
 use Rattle.ring.specs.Ring.{E, var, num, plus, minus, times, opposite, ring}
 use Rattle.rows.specs.Formal.{formal}
 use Rattle.ring.specs.Order.{by-twice, by-fourfold}

@@ -5,7 +5,7 @@ use lib.IntN.{ℤ}
 use Rattle.records.specs.AcNetwork.{AcNetwork}
 use Rattle.numbering.specs.declared.ColumnName.{ColumnName}
 use Rattle.numbering.specs.declared.RowName.{RowName}
-use Rattle.rows.specs.Ops.{Ops, whole}
+use Rattle.ring.specs.Ops.{Ops, whole}
 use Rattle.ring.specs.Ring.{E, var, ring}
 use Rattle.rows.specs.Formal.{formal}
 use Rattle.manual.specs.Matpower.{Complex, _⊗_, conj, real, square}

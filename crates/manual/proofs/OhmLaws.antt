@@ -3,7 +3,7 @@ use Prim.Native.Nat.{ℕ}
 use mathlib.Core.Path.{_≡_, refl, sym, _∙_, ap, subst}
 use mathlib.Core.List.{List, [], _∷_}
 use lib.IntN.{ℤ, pos, _-ℤ_, _*ℤ_}
-use Rattle.rows.specs.Ops.{Ops, whole}
+use Rattle.ring.specs.Ops.{Ops, whole}
 use Rattle.ring.specs.Ring.{E, var, ring}
 use Rattle.rows.specs.Formal.{formal}
 use Rattle.rows.specs.Rows.{OhmRow, pf, qf, pt, qt, OhmPlace, w, wr, wi, flow, ohm, ohmRow, flowColumn, ends}

@@ -2,7 +2,7 @@
 use mathlib.Core.Path.{_≡_, subst}
 use mathlib.Core.List.{List, [], _∷_}
 use lib.IntN.{ℤ}
-use Rattle.rows.specs.Ops.{Ops, whole}
+use Rattle.ring.specs.Ops.{Ops, whole}
 use Rattle.ring.specs.Ring.{E, var, ring}
 use Rattle.rows.specs.Formal.{formal}
 use Rattle.manual.specs.Matpower.{Complex, Line, square, tap}

@@ -4,7 +4,7 @@ use mathlib.Core.Path.{_≡_, sym, _∙_, ap}
 use mathlib.Core.Logic.{_↔_}
 use native.Mathlib.Omega.{arith}
 use lib.IntN.{ℤ, pos, negsuc, _+ℤ_, _-ℤ_, _*ℤ_, natAbs, pos-ne-negsuc, -ℤ-+ℤ-cancel, +ℤ-idl, +ℤ-invr}
-use Rattle.rows.specs.Ops.{whole}
+use Rattle.ring.specs.Ops.{whole}
 use Rattle.ring.specs.Order.{twice}
 use Rattle.manual.specs.Clarabel.{Zero}
 use Rattle.rows.specs.Rows.{OhmRow, flow, ohmRow}

@@ -3,7 +3,7 @@
 use Prim.Native.Nat.{ℕ, zero, suc}
 use mathlib.Core.Bool.{cond}
 use lib.Dec.{eqb}
-use Rattle.rows.specs.Ops.{Ops}
+use Rattle.ring.specs.Ops.{Ops}
 use Rattle.rows.specs.Rows.{one}
 use Rattle.records.specs.AcNetwork.{AcNetwork}
 use Rattle.manual.specs.Matpower.{Complex, real, conj, _⊗_, _⊕_, minus}

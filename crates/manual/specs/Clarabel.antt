@@ -7,7 +7,7 @@ use lib.ListN.{take, getD}
 use lib.IntN.{ℤ, pos, _*ℤ_}
 use lib.Signed.{_≤ℤ_}
 use Rattle.numbering.specs.Numbering.{added}
-use Rattle.rows.specs.Ops.{Ops, whole}
+use Rattle.ring.specs.Ops.{Ops, whole}
 
 -- `ZeroConeT`: s = 0
 pub record Zero (s : ℤ) : Type 0 where

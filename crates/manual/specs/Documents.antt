@@ -14,7 +14,7 @@ use Rattle.numbering.specs.declared.ColumnName.{ColumnName}
 use Rattle.numbering.specs.declared.ColumnName.the-variants.{Pg, Qg, W, Wr, Wi, Pf, Pt, Qf, Qt, CostOf}
 use Rattle.numbering.specs.declared.RowName.{RowName}
 use Rattle.numbering.specs.declared.RowName.the-variants.{Pbal, Qbal, Wub, Wlb, Pgub, Pglb, Qgub, Qglb, Angub, Anglb, Segment, Jabr, Thermal}
-use Rattle.rows.specs.Ops.{whole}
+use Rattle.ring.specs.Ops.{whole}
 use Rattle.rows.specs.Rows.{Coefficient, OhmRow, flow, ohmRow, flowColumn}
 use Rattle.rows.specs.Scaled.{fractionOf, scaled}
 use Rattle.manual.specs.Matpower.{Complex, Line, _⊗_, conj, real, square, tap}

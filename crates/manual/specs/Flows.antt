@@ -1,6 +1,6 @@
 -- The flows of a branch: what the manual says of them, and what the columns of the four Ohm rows hold. On any operations.
 use Prim.Native.Nat.{ℕ}
-use Rattle.rows.specs.Ops.{Ops}
+use Rattle.ring.specs.Ops.{Ops}
 use Rattle.rows.specs.Rows.{OhmRow, pf, qf, pt, qt, OhmPlace, w, wr, wi, flow, ohm}
 use Rattle.records.specs.AcNetwork.{Branch, AcNetwork}
 use Rattle.manual.specs.Matpower.{Complex, Line, sf, st, sfW, stW, conj, _⊗_, square}

@@ -3,7 +3,7 @@
 --   (3.2)  Ybr = [ (ys + j bc/2) / τ²   -ys / (τ e^(-jθ)) ]
 --                [ -ys / (τ e^(jθ))     ys + j bc/2       ]
 -- and section 3.6 'Network Equations', for one branch: S_f = v_f conj(i_f), S_t = v_t conj(i_t).
-use Rattle.rows.specs.Ops.{Ops}
+use Rattle.ring.specs.Ops.{Ops}
 
 pub record Complex (A : Type 0) : Type 0 where
   pub re : A

@@ -1,5 +1,5 @@
 -- The manual's Ybr, entry by entry, and 2 τ² times it: two fractions are equal where the products across are.
-use Rattle.rows.specs.Ops.{Ops}
+use Rattle.ring.specs.Ops.{Ops}
 use Rattle.manual.specs.Matpower.{Complex, Ratio, Line, _⊗_, scale, yff, yft, ytf, ytt, mff, mft, mtf, mtt}
 
 pub data Entry : Type 0 where

@@ -9,7 +9,8 @@ use borrow.Author.Tests.{eqb-true}
 use Rattle.lists.specs.UpTo.{upTo, each, when}
 use Rattle.lists.specs.Entries.{Cell}
 use Rattle.lists.proofs.Each.{when-false, when-nil, when-swap, when-append, each-nil, each-ext, each-when, each-at, each-at′, each-at-when, each-hit, each-group, each-three, each-four, when-pairs, when-order}
-use Rattle.records.specs.AcNetwork.{AcNetwork}
+use Rattle.ring.specs.Ops.{rounded}
+use Rattle.records.specs.AcNetwork.{AcNetwork, branchAt}
 use Rattle.records.proofs.Sound.{Sound}
 use Rattle.numbering.specs.Numbering.{columnKey, rowNumber}
 use Rattle.numbering.specs.declared.ColumnName.{ColumnName}
@@ -176,10 +177,10 @@ module _ (G : AcNetwork Float) (sound : Sound G) (bus-below : (g : ℕ) → g < 
   col-wr e l =
       simp cuts
       (rw (
-        each-at (λ e. keep G (OhmPf e) (ohmValue (G .branch e) pf wr)) e (G .m) l,
-        each-at (λ e. keep G (OhmQf e) (ohmValue (G .branch e) qf wr)) e (G .m) l,
-        each-at (λ e. keep G (OhmPt e) (ohmValue (G .branch e) pt wr)) e (G .m) l,
-        each-at (λ e. keep G (OhmQt e) (ohmValue (G .branch e) qt wr)) e (G .m) l,
+        each-at (λ e. keep G (OhmPf e) (ohmValue (branchAt rounded G e) pf wr)) e (G .m) l,
+        each-at (λ e. keep G (OhmQf e) (ohmValue (branchAt rounded G e) qf wr)) e (G .m) l,
+        each-at (λ e. keep G (OhmPt e) (ohmValue (branchAt rounded G e) pt wr)) e (G .m) l,
+        each-at (λ e. keep G (OhmQt e) (ohmValue (branchAt rounded G e) qt wr)) e (G .m) l,
         each-at-when (G .angled) (λ e. keep G (Angub e) (neg (G .tanmax e))) e (G .m) l,
         each-at-when (G .angled) (λ e. keep G (Anglb e) (G .tanmin e)) e (G .m) l,
         middle (Wr e) (λ i. refl) (λ j. when (eqb j e) (at G (Jabr j 1) (constant64 minusOne))),
@@ -192,10 +193,10 @@ module _ (G : AcNetwork Float) (sound : Sound G) (bus-below : (g : ℕ) → g < 
   col-wi e l =
       simp cuts
       (rw (
-        each-at (λ e. keep G (OhmPf e) (ohmValue (G .branch e) pf wi)) e (G .m) l,
-        each-at (λ e. keep G (OhmQf e) (ohmValue (G .branch e) qf wi)) e (G .m) l,
-        each-at (λ e. keep G (OhmPt e) (ohmValue (G .branch e) pt wi)) e (G .m) l,
-        each-at (λ e. keep G (OhmQt e) (ohmValue (G .branch e) qt wi)) e (G .m) l,
+        each-at (λ e. keep G (OhmPf e) (ohmValue (branchAt rounded G e) pf wi)) e (G .m) l,
+        each-at (λ e. keep G (OhmQf e) (ohmValue (branchAt rounded G e) qf wi)) e (G .m) l,
+        each-at (λ e. keep G (OhmPt e) (ohmValue (branchAt rounded G e) pt wi)) e (G .m) l,
+        each-at (λ e. keep G (OhmQt e) (ohmValue (branchAt rounded G e) qt wi)) e (G .m) l,
         each-at-when (G .angled) (λ e. at G (Angub e) (constant64 one)) e (G .m) l,
         each-at-when (G .angled) (λ e. at G (Anglb e) (constant64 minusOne)) e (G .m) l,
         middle (Wi e) (λ i. refl) (λ j. when (eqb j e) (at G (Jabr j 2) (constant64 minusOne))),

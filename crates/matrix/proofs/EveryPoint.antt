@@ -4,6 +4,7 @@ use mathlib.Core.Path.{_≡_, ap}
 use mathlib.Core.List.{List, [], _∷_}
 use lib.Ieee.{Float}
 use Rattle.lists.specs.UpTo.{listed}
+use Rattle.ring.specs.Ops.{rounded}
 use Rattle.records.specs.AcNetwork.{AcNetwork}
 use Rattle.numbering.specs.Numbering.{columnAt, rowAt}
 use Rattle.numbering.specs.declared.ColumnName.{ColumnName}
@@ -18,7 +19,7 @@ module _ (G : AcNetwork Float) where
   unfolding rightSide
   right-side = every-row G (λ r. b G (rowAt G r) ∷ []) (λ x. b G x ∷ []) (λ x h. ap (λ (y : RowName). b G y ∷ []) (row-placed G x h))
 
-  pub linear-side : linear G ≡ everyColumn G (λ x. linearAt G x ∷ [])
+  pub linear-side : linear G ≡ everyColumn G (λ x. linearAt rounded G x ∷ [])
   unfolding linear
   linear-side =
-      every-column G (λ c. linearAt G (columnAt G c) ∷ []) (λ x. linearAt G x ∷ []) (λ x h. ap (λ (y : ColumnName). linearAt G y ∷ []) (column-placed G x h))
+      every-column G (λ c. linearAt rounded G (columnAt G c) ∷ []) (λ x. linearAt rounded G x ∷ []) (λ x h. ap (λ (y : ColumnName). linearAt rounded G y ∷ []) (column-placed G x h))

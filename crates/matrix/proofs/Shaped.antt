@@ -5,12 +5,12 @@ use mathlib.Core.List.{List, [], _∷_, _++_, append-assoc, append-nil}
 use lib.ListN.{getD}
 use lib.Ieee.{Float, neg}
 use Rattle.lists.specs.UpTo.{each, when}
-use Rattle.records.specs.AcNetwork.{AcNetwork}
+use Rattle.records.specs.AcNetwork.{AcNetwork, branchAt}
 use Rattle.numbering.specs.declared.ColumnName.{ColumnName}
 use Rattle.numbering.specs.declared.ColumnName.the-variants.{Pg, Qg, W, Wr, Wi, Pf, Pt, Qf, Qt, CostOf}
 use Rattle.numbering.specs.declared.RowName.{RowName}
 use Rattle.numbering.specs.declared.RowName.the-variants.{Pbal, Qbal, OhmPf, OhmQf, OhmPt, OhmQt, Wub, Wlb, Pgub, Pglb, Qgub, Qglb, Angub, Anglb, Segment, Jabr, Thermal}
-use Rattle.rows.specs.Ops.{rounded}
+use Rattle.ring.specs.Ops.{rounded}
 use Rattle.rows.specs.Rows.{Constant, one, minusOne, half, minusHalf, constant64, Term, term, kept, terms, written, writtenCell, single, cell, plain, constant, OhmRow, pf, qf, pt, qt, w, wr, wi, flow, ohmValue, flowColumn, endBus}
 use Rattle.rows.proofs.Shape.{hitTerms, endTerms, pbal-terms, qbal-terms, jabr-first, jabr-last, written-when}
 
@@ -21,7 +21,7 @@ sole c v = term c v ∷ []
 module _ (G : AcNetwork Float) where
   unfoldable pub ohmTerms : OhmRow → ℕ → List Term
   ohmTerms r e =
-      kept (W (endBus G r e)) (ohmValue (G .branch e) r w) ++ kept (Wr e) (ohmValue (G .branch e) r wr) ++ kept (Wi e) (ohmValue (G .branch e) r wi)
+      kept (W (endBus G r e)) (ohmValue (branchAt rounded G e) r w) ++ kept (Wr e) (ohmValue (branchAt rounded G e) r wr) ++ kept (Wi e) (ohmValue (branchAt rounded G e) r wi)
       ++ sole (flowColumn r e) (constant64 one)
 
   unfoldable pub shaped : RowName → List Term

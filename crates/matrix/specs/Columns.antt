@@ -5,7 +5,8 @@ use lib.Dec.{eqb}
 use lib.Ieee.{Float, neg, ne}
 use Rattle.lists.specs.UpTo.{each, when}
 use Rattle.lists.specs.Entries.{Cell, cell}
-use Rattle.records.specs.AcNetwork.{AcNetwork}
+use Rattle.ring.specs.Ops.{rounded}
+use Rattle.records.specs.AcNetwork.{AcNetwork, branchAt}
 use Rattle.numbering.specs.Numbering.{rowNumber}
 use Rattle.numbering.specs.declared.ColumnName.{ColumnName}
 use Rattle.numbering.specs.declared.ColumnName.the-variants.{Pg, Qg, W, Wr, Wi, Pf, Pt, Qf, Qt, CostOf}
@@ -57,7 +58,7 @@ module _ (G : AcNetwork Float) where
   shuntCells i = keep (Pbal i) (neg (G .gs i)) ++ keep (Qbal i) (G .bs i)
 
   unfoldable pub ohmCell : OhmRow → ℕ → List Cell
-  ohmCell r e = keep (ohmRow r e) (ohmValue (G .branch e) r w)
+  ohmCell r e = keep (ohmRow r e) (ohmValue (branchAt rounded G e) r w)
 
   unfoldable pub boundCells : ℕ → List Cell
   boundCells i = when (G .bounded i) (at (Wub i) (constant64 one) ++ at (Wlb i) (constant64 minusOne))
@@ -83,8 +84,8 @@ module _ (G : AcNetwork Float) where
   -- wr and wi: the four Ohm rows
   unfoldable pub ohmCells : OhmPlace → ℕ → List Cell
   ohmCells p e =
-      keep (ohmRow pf e) (ohmValue (G .branch e) pf p) ++ keep (ohmRow qf e) (ohmValue (G .branch e) qf p)
-      ++ keep (ohmRow pt e) (ohmValue (G .branch e) pt p) ++ keep (ohmRow qt e) (ohmValue (G .branch e) qt p)
+      keep (ohmRow pf e) (ohmValue (branchAt rounded G e) pf p) ++ keep (ohmRow qf e) (ohmValue (branchAt rounded G e) qf p)
+      ++ keep (ohmRow pt e) (ohmValue (branchAt rounded G e) pt p) ++ keep (ohmRow qt e) (ohmValue (branchAt rounded G e) qt p)
 
   unfoldable pub wrCells : ℕ → List Cell
   wrCells e =

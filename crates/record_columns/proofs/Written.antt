@@ -10,7 +10,8 @@ use Rattle.lists.specs.UpTo.{each, when, sum, bit, count}
 use Rattle.lists.specs.Compressed.{CellOut}
 use Rattle.lists.proofs.Each.{each-ext}
 use Rattle.lists.proofs.Sums.{bit-le, sum-mono}
-use Rattle.records.specs.AcNetwork.{AcNetwork}
+use Rattle.ring.specs.Ops.{rounded}
+use Rattle.records.specs.AcNetwork.{AcNetwork, branchAt}
 use Rattle.records.specs.Fields.{slopeOf}
 use Rattle.records.proofs.Segments.{segment-record}
 use Rattle.numbering.specs.Layout.{layoutRow}
@@ -66,11 +67,11 @@ module _ (l : SocWrLayout) (bytes : List ℕ) where
   unfolding costTurn
   turned g h e k = columns-turn (costTurn G) h e k
 
-  pub wr-are : (e : ℕ) {p : Products} {x : Series} → p ≡ productsOf (branchWith x zero64) wr → x ≡ seriesOf (G .branch e) → products G e p ≡ ohmCells G wr e
+  pub wr-are : (e : ℕ) {p : Products} {x : Series} → p ≡ productsOf (branchWith x zero64) wr → x ≡ seriesOf (branchAt rounded G e) → products G e p ≡ ohmCells G wr e
   unfolding products ohmCells ohmValue
   wr-are e p q = rw (p, q)
 
-  pub wi-are : (e : ℕ) {p : Products} {x : Series} → p ≡ productsOf (branchWith x zero64) wi → x ≡ seriesOf (G .branch e) → products G e p ≡ ohmCells G wi e
+  pub wi-are : (e : ℕ) {p : Products} {x : Series} → p ≡ productsOf (branchWith x zero64) wi → x ≡ seriesOf (branchAt rounded G e) → products G e p ≡ ohmCells G wi e
   unfolding products ohmCells ohmValue
   wi-are e p q = rw (p, q)
 

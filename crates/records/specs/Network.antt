@@ -5,14 +5,15 @@ use mathlib.Core.Path.{_≡_}
 use mathlib.Core.Bool.{false}
 use mathlib.Core.List.{List}
 use lib.ListN.{length}
-use lib.Ieee.{Float, binary64, mul}
+use lib.Ieee.{Float}
 use Rattle.lists.specs.UpTo.{sum}
 use Rattle.records.specs.Fields.{countOf, idOf, voltageBoundOf, gsOf, bsOf, pdOf, qdOf, vmMinOf, vmMaxOf, limitedOf, fromOf, toOf, gOf, bOf, gFrOf, bFrOf, gToOf, bToOf, tapOf, cosShiftOf, sinShiftOf, angminOf, angmaxOf, tanAngminOf, tanAngmaxOf, rateAOf, angledOf, capabilityOf, piecewiseOf, segmentsOf, genBusOf, pminOf, pmaxOf, qminOf, qmaxOf, cqOf, clOf, ccOf, slopeOf, interceptOf}
-use Rattle.records.specs.AcNetwork.{Branch, AcNetwork}
+use Rattle.ring.specs.Ops.{rounded}
+use Rattle.records.specs.AcNetwork.{BranchData, Branch, gathered, AcNetwork}
 
--- "tr = tap × cosine, ti = tap × sine, tm2 = tap × tap"
-unfoldable pub branchOf : List ℕ → ℕ → Branch Float
-branchOf b r =
+-- the branch at record r, and with its products
+unfoldable pub branchDataOf : List ℕ → ℕ → BranchData Float
+branchDataOf b r =
     record {
       g = gOf b r;
       b = bOf b r;
@@ -20,10 +21,13 @@ branchOf b r =
       bfr = bFrOf b r;
       gto = gToOf b r;
       bto = bToOf b r;
-      tr = mul binary64 (tapOf b r) (cosShiftOf b r);
-      ti = mul binary64 (tapOf b r) (sinShiftOf b r);
-      tm2 = mul binary64 (tapOf b r) (tapOf b r);
+      tap = tapOf b r;
+      cosine = cosShiftOf b r;
+      sine = sinShiftOf b r;
     }
+
+abbrev pub branchOf : List ℕ → ℕ → Branch Float
+branchOf b r = gathered rounded (branchDataOf b r)
 
 -- "Segments follow in generator order": how many belong to the generators before g, and the record of segment t of generator g
 abbrev pub segmentsBefore : (n m : ℕ) → List ℕ → ℕ → ℕ
@@ -50,7 +54,7 @@ networkOf n m k s b =
       branchId = λ e. idOf b (n + e);
       from = λ e. fromOf b (n + e);
       to = λ e. toOf b (n + e);
-      branch = λ e. branchOf b (n + e);
+      branch = λ e. branchDataOf b (n + e);
       angmin = λ e. angminOf b (n + e);
       angmax = λ e. angmaxOf b (n + e);
       tanmin = λ e. tanAngminOf b (n + e);

@@ -1,3 +1,2 @@
-pub mod Whole
-pub mod Ring
-pub mod Order
+pub mod Ops
+pub mod Laws

@@ -7,7 +7,7 @@ use lib.Dec.{eqb, ltb}
 use lib.Ieee.{Float, neg}
 use Rattle.lists.specs.UpTo.{upTo, each, when}
 use Rattle.lists.proofs.Each.{each-ext}
-use Rattle.rows.specs.Ops.{rounded}
+use Rattle.ring.specs.Ops.{rounded}
 use Rattle.records.specs.AcNetwork.{AcNetwork}
 use Rattle.rows.specs.Rows.{Constant, one, minusOne, half, minusHalf, constant, plain, Cell, cell, hits, constant64, Term, term, kept, written, writtenCell, terms}
 use Rattle.numbering.specs.declared.ColumnName.{ColumnName}

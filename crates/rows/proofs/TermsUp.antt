@@ -10,7 +10,7 @@ use lib.Ieee.{Float, ne}
 use Rattle.lists.specs.UpTo.{upTo, each, when}
 use Rattle.lists.specs.Entries.{entry}
 use Rattle.lists.proofs.Ascending.{Asc, asc-from}
-use Rattle.rows.specs.Ops.{rounded}
+use Rattle.ring.specs.Ops.{rounded}
 use Rattle.records.specs.AcNetwork.{AcNetwork}
 use Rattle.numbering.specs.Numbering.{columnNumber}
 use Rattle.rows.specs.Rows.{Coefficient, plain, over, constant, Constant, Cell, cell, hits, cells, under, zero64, value64, Term, term, kept, written, writtenCell, terms}

@@ -1,12 +1,13 @@
 -- The program: min ½ x'Px + q'x with Ax + s = b.
-use Prim.Native.Nat.{ℕ, _+_}
+use Prim.Native.Nat.{ℕ}
+use Prim.Native.Nat as Nat
 use mathlib.Core.List.{List, [], _∷_, _++_, map}
 use lib.ListN.{getD}
 use lib.Ieee.{Float, binary64, nan, neg, ne, add, sub, mul}
 use Rattle.lists.specs.UpTo.{each, listed, when}
 use Rattle.lists.specs.Entries.{Entry, entry, select}
 use Rattle.lists.specs.Entries as Entries
-use Rattle.rows.specs.Ops.{rounded}
+use Rattle.ring.specs.Ops.{Ops, rounded}
 use Rattle.records.specs.AcNetwork.{AcNetwork}
 use Rattle.numbering.specs.Numbering.{nvar, columnNumber, columnAt, rowNumber}
 use Rattle.rows.specs.Rows.{Term, terms, b, zero64}
@@ -20,7 +21,7 @@ abbrev pub thermalFrom : ℕ → ℕ → RowName
 thermalFrom e l = Thermal e l
 
 abbrev pub thermalTo : ℕ → ℕ → RowName
-thermalTo e l = Thermal e (3 + l)
+thermalTo e l = Thermal e (Nat._+_ 3 l)
 
 -- ---- f at every row, in the rows' order
 module _ {A B : Type 0} (G : AcNetwork A) where
@@ -44,6 +45,31 @@ module _ {A B : Type 0} (G : AcNetwork A) where
   abbrev pub everyRow : (RowName → List B) → List B
   everyRow f = equalities f ++ inequalities f ++ secondOrder (λ d x. each d (λ l. f (x l)))
 
+-- ---- P and q over any operations. P: 2 cq on the diagonal, at each pg
+abbrev pub curvedAt : ℕ → ColumnName
+curvedAt g = Pg g
+
+module _ {A : Type 0} (o : Ops A) (G : AcNetwork A) where
+  infixl 60 _+_
+  infixl 70 _*_
+  open Ops o using (zero, one, two, _+_, _*_)
+
+  abbrev pub curvature : ℕ → A
+  curvature g = two * G .cq g
+
+  -- q: cl at each pg, 1 at each cost column; each is added to 0
+  abbrev pub linearAt : ColumnName → A
+  linearAt (Pg g) = zero + G .cl g
+  linearAt (Qg g) = zero
+  linearAt (W i) = zero
+  linearAt (Wr e) = zero
+  linearAt (Wi e) = zero
+  linearAt (Pf e) = zero
+  linearAt (Pt e) = zero
+  linearAt (Qf e) = zero
+  linearAt (Qt e) = zero
+  linearAt (CostOf g) = zero + one
+
 -- an entry unless its value equals zero
 abbrev pub nonzero : ℕ → ℕ → Float → List Entry
 nonzero r c v = when (ne v zero64) (entry r c v ∷ [])
@@ -59,25 +85,12 @@ module _ (G : AcNetwork Float) where
   unfoldable pub matrix : List (List Entries.Cell)
   matrix = listed (nvar G) (λ c. select c program)
 
-  -- ---- P: 2 cq on the diagonal, zeros dropped
+  -- ---- P and q, as the code computes them: zeros of P dropped
   unfoldable pub quadratic : List Entry
-  quadratic = each (G .k) (λ g. nonzero (columnNumber G (Pg g)) (columnNumber G (Pg g)) (mul binary64 (rounded .two) (G .cq g)))
-
-  -- ---- q: cl at each pg, 1 at each cost column; each is added to 0
-  abbrev pub linearAt : ColumnName → Float
-  linearAt (Pg g) = add binary64 zero64 (G .cl g)
-  linearAt (Qg g) = zero64
-  linearAt (W i) = zero64
-  linearAt (Wr e) = zero64
-  linearAt (Wi e) = zero64
-  linearAt (Pf e) = zero64
-  linearAt (Pt e) = zero64
-  linearAt (Qf e) = zero64
-  linearAt (Qt e) = zero64
-  linearAt (CostOf g) = add binary64 zero64 (rounded .one)
+  quadratic = each (G .k) (λ g. nonzero (columnNumber G (curvedAt g)) (columnNumber G (curvedAt g)) (curvature rounded G g))
 
   unfoldable pub linear : List Float
-  linear = listed (nvar G) (λ c. linearAt (columnAt G c))
+  linear = listed (nvar G) (λ c. linearAt rounded G (columnAt G c))
 
   -- ---- s = b - A x, where a row's sum starts at negative zero and goes by its terms
   unfoldable pub sumOf : List Float → Float → List Term → Float

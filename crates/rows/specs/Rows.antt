@@ -7,8 +7,8 @@ use lib.ListN.{getD}
 use lib.Ieee.{Float, binary64, ofBits, ne, div}
 use lib.Ieee as Ieee
 use Rattle.lists.specs.UpTo.{each, when}
-use Rattle.rows.specs.Ops.{Ops, rounded}
-use Rattle.records.specs.AcNetwork.{Branch, AcNetwork}
+use Rattle.ring.specs.Ops.{Ops, rounded}
+use Rattle.records.specs.AcNetwork.{Branch, AcNetwork, branchAt}
 use Rattle.numbering.specs.declared.ColumnName.{ColumnName}
 use Rattle.numbering.specs.declared.ColumnName.the-variants.{Pg, Qg, W, Wr, Wi, Pf, Pt, Qf, Qt, CostOf}
 use Rattle.numbering.specs.declared.RowName.{RowName}
@@ -112,8 +112,8 @@ module _ {A : Type 0} (o : Ops A) (G : AcNetwork A) where
   -- the four cells of an Ohm row of branch e
   abbrev pub ohmCells : OhmRow → ℕ → List (Cell A)
   ohmCells r e =
-      cell (ohmColumn G r w e) (ohm o (G .branch e) r w) ∷ cell (ohmColumn G r wr e) (ohm o (G .branch e) r wr)
-      ∷ cell (ohmColumn G r wi e) (ohm o (G .branch e) r wi) ∷ cell (ohmColumn G r flow e) (ohm o (G .branch e) r flow) ∷ []
+      cell (ohmColumn G r w e) (ohm o (branchAt o G e) r w) ∷ cell (ohmColumn G r wr e) (ohm o (branchAt o G e) r wr)
+      ∷ cell (ohmColumn G r wi e) (ohm o (branchAt o G e) r wi) ∷ cell (ohmColumn G r flow e) (ohm o (branchAt o G e) r flow) ∷ []
 
   -- constants at the two bus columns of a branch, the smaller number first
   abbrev pub ends : ℕ → Constant → Constant → List (Cell A)
@@ -175,10 +175,10 @@ module _ {A : Type 0} (o : Ops A) (G : AcNetwork A) where
   abbrev pub under : RowName → A
   under (Pbal i) = o .one
   under (Qbal i) = o .one
-  under (OhmPf e) = G .branch e .tm2
-  under (OhmQf e) = G .branch e .tm2
-  under (OhmPt e) = G .branch e .tm2
-  under (OhmQt e) = G .branch e .tm2
+  under (OhmPf e) = branchAt o G e .tm2
+  under (OhmQf e) = branchAt o G e .tm2
+  under (OhmPt e) = branchAt o G e .tm2
+  under (OhmQt e) = branchAt o G e .tm2
   under (Wub i) = o .one
   under (Wlb i) = o .one
   under (Pgub g) = o .one

@@ -1,11 +1,14 @@
 -- "Formulas are compared on whole numbers put for the floats, with each denominator and each half multiplied out": a coefficient as a fraction, and
--- coefficients and rows of A 2 tm2 fold, over any operations. `Multiplied.multiplied` says that the two readings agree.
+-- coefficients and rows of A 2 tm2 fold, over any operations. `Multiplied.multiplied` says that the two agree, `Multiplied.quotients` that the
+-- code computes the fraction.
+use mathlib.Core.Path.{_≡_}
 use mathlib.Core.List.{List, [], _∷_}
+use lib.Ieee.{Float, binary64, div}
 use Rattle.records.specs.AcNetwork.{AcNetwork}
 use Rattle.numbering.specs.declared.ColumnName.{ColumnName}
 use Rattle.numbering.specs.declared.RowName.{RowName}
-use Rattle.rows.specs.Ops.{Ops}
-use Rattle.rows.specs.Rows.{Constant, one, minusOne, half, minusHalf, Coefficient, Reading, read, Cell, cells, under}
+use Rattle.ring.specs.Ops.{Ops, rounded}
+use Rattle.rows.specs.Rows.{Constant, one, minusOne, half, minusHalf, Coefficient, plain, over, constant, Reading, read, value64, Cell, cells, under}
 
 -- a fraction that is not worked out
 pub record Fraction (A : Type 0) : Type 0 where
@@ -48,3 +51,9 @@ module _ {A : Type 0} (o : Ops A) where
 
     abbrev pub row : AcNetwork A → RowName → A
     row G r = sum (under o G r) (cells o G r)
+
+-- what the code computes (`value64`) is the rounded quotient of numerator and denominator; a number as it stands has none
+abbrev pub Quotient : Float → Coefficient Float → Type 0
+Quotient tm2 (plain a) = value64 tm2 (plain a) ≡ fractionOf rounded tm2 (plain a) .numerator
+Quotient tm2 (over a) = value64 tm2 (over a) ≡ div binary64 (fractionOf rounded tm2 (over a) .numerator) (fractionOf rounded tm2 (over a) .denominator)
+Quotient tm2 (constant c) = value64 tm2 (constant c) ≡ div binary64 (fractionOf rounded tm2 (constant c) .numerator) (fractionOf rounded tm2 (constant c) .denominator)

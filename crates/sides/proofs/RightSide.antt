@@ -19,7 +19,7 @@ use Rattle.numbering.specs.declared.RowName.{RowName}
 use Rattle.numbering.specs.declared.RowName.the-variants.{Pbal, Qbal, OhmPf, OhmQf, OhmPt, OhmQt, Wub, Wlb, Pgub, Pglb, Qgub, Qglb, Angub, Anglb, Segment}
 use Rattle.numbering.proofs.Numbers.{layout-column, layout-row, layout-ncon}
 use Rattle.numbering.proofs.Laid.{curves-are, laid-nvar, laid-ncon}
-use Rattle.rows.specs.Ops.{rounded}
+use Rattle.ring.specs.Ops.{rounded}
 use Rattle.rows.specs.Rows.{b, zero64}
 use Rattle.rows.specs.Program.{linear}
 use Rattle.matrix.specs.Lists.{rightSide}

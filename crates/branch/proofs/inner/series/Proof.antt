@@ -1,11 +1,12 @@
 -- `branch::inner::series` meets its contract. Assumes nothing.
 use borrow.Author.Needs.{needs}
-use Rattle.records.specs.Network.{branchOf}
+use Rattle.records.specs.AcNetwork.{gathered}
+use Rattle.records.specs.Network.{branchDataOf}
 use Rattle.branch.proofs.inner.series.Statement.{statement}
 use Rattle.branch.proofs.inner.series.Tie as tie
 
 returns : tie.Need-returns
-unfolding branchOf
+unfolding gathered branchDataOf
 returns c = cc
 
 pub series-spec : {M : Type 1} → statement M

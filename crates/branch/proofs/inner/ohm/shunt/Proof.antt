@@ -1,23 +1,24 @@
 -- `branch::inner::ohm::shunt` meets its contract: each arm reads the branch's own field. Assumes nothing.
-use Rattle.records.specs.Network.{branchOf}
+use Rattle.records.specs.AcNetwork.{gathered}
+use Rattle.records.specs.Network.{branchDataOf}
 use borrow.Author.Needs.{needs}
 use Rattle.branch.proofs.inner.ohm.shunt.Statement.{statement}
 use Rattle.branch.proofs.inner.ohm.shunt.Tie as tie
 
 returns : tie.Need-returns
-unfolding branchOf
+unfolding gathered branchDataOf
 returns c = rw (c .before .enum-told .given .1) (c .g-fr .ensures)
 
 returns-2 : tie.Need-returns-2
-unfolding branchOf
+unfolding gathered branchDataOf
 returns-2 c = rw (c .before .enum-told2 .given .1) (c .b-fr .ensures)
 
 returns-3 : tie.Need-returns-3
-unfolding branchOf
+unfolding gathered branchDataOf
 returns-3 c = rw (c .before .enum-told3 .given .1) (c .g-to .ensures)
 
 returns-4 : tie.Need-returns-4
-unfolding branchOf
+unfolding gathered branchDataOf
 returns-4 c = rw (c .before .enum-told4 .given .1) (c .b-to .ensures)
 
 pub shunt-spec : {M : Type 1} → statement M

@@ -10,6 +10,8 @@ use lib.Dec.{eqb, ltb}
 use lib.ListN.{getD}
 use lib.Ieee.{nan}
 use Rattle.lists.proofs.Compressed.{wrote-none}
+use Rattle.ring.specs.Ops.{rounded}
+use Rattle.records.specs.AcNetwork.{branchAt}
 use Rattle.numbering.specs.Laid.{netOf}
 use Rattle.rows.specs.Rows.{w, ohmValue}
 use Rattle.branch.specs.Ohm.{rowKind}
@@ -24,7 +26,7 @@ returns c =
     let a = c .before .before .before .before .before .before .before .before .before .before .before .before .before .before .before .before .before .before .args in
     let t : eqb (a .x % 2) (sideOf (rowKind (a .q))) ≡ true = eq-eqb _ _ (c .before .before .before .before .before .before .before .before .before .before .before .before .if1 .taken ∙ c .before .before .before .before .before .before .before .before .before .before .before .before .before .side .ensures) in
     let e : ltb (a .x / 2) (a .l .m) ≡ true = lt-ltb (a .x / 2) (a .l .m) (omega (arith, c .before .before .before .before .before .before .before .before .before .before .before .before .before .before .wide .ensures .0, c .before .before .before .before .before .before .before .before .before .before .if2 .taken)) in
-    let v : getD (now (a .vals)) (a .gathered + 4 * (c .before .before .before .before .before .before .before .before .before .before .before .before .before .before .wide .result) + c .before .before .before .before .before .before .before .before .place .result) nan ≡ ohmValue (netOf (a .l) (now (a .bytes)) .branch (c .before .before .before .before .before .before .before .before .before .before .before .before .before .before .wide .result)) (rowKind (a .q)) w =
+    let v : getD (now (a .vals)) (a .gathered + 4 * (c .before .before .before .before .before .before .before .before .before .before .before .before .before .before .wide .result) + c .before .before .before .before .before .before .before .before .place .result) nan ≡ ohmValue (branchAt rounded (netOf (a .l) (now (a .bytes))) (c .before .before .before .before .before .before .before .before .before .before .before .before .before .before .wide .result)) (rowKind (a .q)) w =
     rw (c .before .before .before .before .before .before .before .before .place .ensures .0) (c .before .before .before .before .before .before .before .before .before .before .before .before .before .before .before .before .before .before .pre .1 .1 .at (c .before .before .before .before .before .before .before .before .before .before .before .before .before .before .wide .result) (rowKind (a .q)) (omega (arith, c .before .before .before .before .before .before .before .before .before .before .if2 .taken))) in
     (rw (t, e) (rw (c .before .before .before .before .before .before .before .before .before .ohm-row .ensures, v, c .before .before .before .before .before .before .before .before .before .before .before .before .before .before .wide .ensures .0) at (c .before .before .before .before .put-nonzero .ensures .0)), omega arith)
 

@@ -1,6 +1,8 @@
 -- `lines::inner::ohm::ohm_line` meets its contract: the three values are the row's coefficients, at the row's columns. Assumes nothing.
 use mathlib.Core.Path.{_≡_, _∙_}
 use denote.Ref.{now}
+use Rattle.ring.specs.Ops.{rounded}
+use Rattle.records.specs.AcNetwork.{branchAt}
 use Rattle.numbering.specs.Laid.{netOf}
 use Rattle.branch.specs.Ohm.{rowKind}
 use Rattle.branch.proofs.Coefficients.{wr-of, wi-of}
@@ -12,7 +14,7 @@ use Rattle.lines.proofs.inner.ohm.ohm_line.Tie as tie
 returns : tie.Need-returns
 returns c =
     let s = c .before .before .before .before .before .before .before .before .before .before in
-    let B = netOf (s .args .l) (now (s .args .bytes)) .branch (s .args .e) in
+    let B = branchAt rounded (netOf (s .args .l) (now (s .args .bytes))) (s .args .e) in
     let k = rowKind (s .args .q) in
     let y = c .before .before .before .before .before .wr-value .ensures ∙ wr-of B k (c .before .before .before .before .before .before .before .series .ensures) in
     let z = c .before .before .before .before .wi-value .ensures ∙ wi-of B k (c .before .before .before .before .before .before .before .series .ensures) in

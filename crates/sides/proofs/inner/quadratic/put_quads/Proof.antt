@@ -11,7 +11,7 @@ use Rattle.lists.proofs.Compressed.{len-rows, len-vals}
 use Rattle.numbering.specs.Layout.{layoutColumn}
 use Rattle.numbering.specs.declared.ColumnName.the-variants.{Pg}
 use Rattle.numbering.proofs.Numbers.{layout-column}
-use Rattle.rows.specs.Ops.{rounded}
+use Rattle.ring.specs.Ops.{rounded}
 use Rattle.cells.specs.Columns.{Columns}
 use Rattle.sides.specs.Quadratic.{quadValue, quadCells}
 use Rattle.cells.proofs.Ends.{columns-none, columns-more, columns-all, columns-starts}

@@ -6,8 +6,10 @@ use lib.Dec.{T, leb·zero, leb·suc-zero, leb·suc-suc}
 use lib.IntN.{ℤ, pos, negsuc, sucℤ, predℤ, negℤ, _+ℤ_, _-ℤ_, _*ℤ_, +ℤ-idr, +ℤ-invr, +ℤ-sucℤ, +ℤ-predℤ, suc-pred}
 use lib.Signed.{leZ, _≤ℤ_}
 use mathlib.Core.List.{[], _∷_}
-use Rattle.ring.specs.Whole.{steps}
-use Rattle.ring.specs.Ring.{var, num, plus, times, ring}
+use Rattle.ring.proofs.Whole.{steps}
+use Rattle.ring.specs.Ops.{whole}
+use Rattle.ring.proofs.Laws.{whole-ring}
+use Rattle.ring.proofs.Ring.{var, twoᴱ, plus, times, ring}
 
 le-suc : (a b : ℤ) → leZ (sucℤ a) (sucℤ b) ≡ leZ a b
 le-suc (pos a) (pos b) = leb·suc-suc a b
@@ -38,7 +40,7 @@ by-test : {a b c d : ℤ} → leZ a b ≡ leZ c d → a ≤ℤ b ↔ c ≤ℤ d
 by-test e = ((λ h. record { le = subst T e (h .le) }), (λ h. record { le = subst T (sym e) (h .le) }))
 
 pub twice : (k : ℤ) → pos 2 *ℤ k ≡ k +ℤ k
-twice k = ring (times (num (pos 2)) (var 0)) (plus (var 0) (var 0)) (k ∷ []) tt
+twice k = ring whole whole-ring (times twoᴱ (var 0)) (plus (var 0) (var 0)) (k ∷ []) tt
 
 -- a number is not negative exactly if two others are in order, where it is twice their difference
 pub by-twice : (s a b : ℤ) → s ≡ pos 2 *ℤ (b -ℤ a) → pos 0 ≤ℤ s ↔ a ≤ℤ b

@@ -1,0 +1,4 @@
+pub mod Whole
+pub mod Laws
+pub mod Ring
+pub mod Order
