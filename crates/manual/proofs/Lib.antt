@@ -1,7 +1,9 @@
-pub mod RatioLaws
-pub mod OhmLaws
-pub mod BalanceLaws
-pub mod ConeLaws
-pub mod ZeroLaws
-pub mod Cones
-pub mod Documents
+pub mod Branches
+pub mod Ohm
+pub mod Sums
+pub mod Complexes
+pub mod Balance
+pub mod Objective
+pub mod Jabr
+pub mod Split
+pub mod Voltages

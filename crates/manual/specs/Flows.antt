@@ -1,10 +1,9 @@
 -- The flows of a branch: what the manual says of them, and what the columns of the four Ohm rows hold. On any operations.
 use Prim.Native.Nat.{ℕ}
 use Rattle.ring.specs.Ops.{Ops}
-use Rattle.rows.specs.Rows.{OhmRow, pf, qf, pt, qt, OhmPlace, w, wr, wi, flow, ohm}
-use Rattle.records.specs.AcNetwork.{Branch, AcNetwork}
-use Rattle.manual.specs.Matpower.{Complex, Line, sf, st, sfW, stW, conj, _⊗_, square}
-use Rattle.rows.specs.Scaled.{scaled}
+use Rattle.rows.specs.Rows.{OhmRow, pf, qf, pt, qt}
+use Rattle.records.specs.AcNetwork.{BranchData, AcNetwork}
+use Rattle.manual.specs.Matpower.{Complex, complex, Line, τ², scale, multiple, sf, st, sfW, stW, conj, _⊗_, square}
 use Rattle.numbering.specs.declared.ColumnName.{ColumnName}
 use Rattle.numbering.specs.declared.ColumnName.the-variants.{W, Wr, Wi, Pf, Pt, Qf, Qt}
 
@@ -20,46 +19,29 @@ module _ {A : Type 0} (o : Ops A) where
   infixl 60 _+_
   infixl 60 _-_
   infixl 70 _*_
-  open Ops o using (_+_, _-_, _*_, zero, two)
+  open Ops o using (_+_, _-_, _*_)
 
-  -- the manual's line, where both ends hold half of bc
-  abbrev pub lineOf : Branch A → Line A
-  lineOf t = record { g = t .g; b = t .b; bc = t .bfr + t .bto; tr = t .tr; ti = t .ti; tm2 = t .tm2 }
+  -- the manual's line, where both ends hold half of bc; tap is τ, shift is θ
+  abbrev pub lineOf : BranchData A → Line A
+  lineOf d = record { g = d .g; b = d .b; bc = d .bfr + d .bto; τ = d .tap; cosθ = d .cosine; sinθ = d .sine }
 
-  -- the branch without conductance at its ends, and with the from end's susceptance at both
-  abbrev pub alike : Branch A → Branch A
-  alike t = record { g = t .g; b = t .b; gfr = zero; bfr = t .bfr; gto = zero; bto = t .bfr; tr = t .tr; ti = t .ti; tm2 = t .tm2 }
+  -- the column of a row's flow
+  abbrev pub held : Point A → OhmRow → A
+  held x pf = x .sf .re
+  held x qf = x .sf .im
+  held x pt = x .st .re
+  held x qt = x .st .im
 
-  -- the value of a column
-  abbrev pub held : Point A → OhmRow → OhmPlace → A
-  held x pf w = x .wf
-  held x qf w = x .wf
-  held x pt w = x .wt
-  held x qt w = x .wt
-  held x r wr = x .c .re
-  held x r wi = x .c .im
-  held x pf flow = x .sf .re
-  held x qf flow = x .sf .im
-  held x pt flow = x .st .re
-  held x qt flow = x .st .im
-
-  abbrev pub term : Branch A → Point A → OhmRow → OhmPlace → A
-  term t x r p = scaled o (t .tm2) (ohm o t r p) * held x r p
-
-  -- 2 tm2 times s = b - A x, where b is 0
-  abbrev pub ohmSlack : Branch A → Point A → OhmRow → A
-  ohmSlack t x r = two * t .tm2 * zero - (term t x r w + (term t x r wr + (term t x r wi + (term t x r flow + zero))))
-
-  -- 2 tm2 times what the manual says of the row's flow
+  -- 2 τ² times what the manual says of the row's flow
   abbrev pub manual : Line A → Point A → OhmRow → A
-  manual l x pf = sfW o l (x .wf) (x .wt) (x .c) .re
-  manual l x qf = sfW o l (x .wf) (x .wt) (x .c) .im
-  manual l x pt = stW o l (x .wf) (x .wt) (x .c) .re
-  manual l x qt = stW o l (x .wf) (x .wt) (x .c) .im
+  manual l x pf = sfW o (multiple o l) (x .wf) (x .wt) (x .c) .re
+  manual l x qf = sfW o (multiple o l) (x .wf) (x .wt) (x .c) .im
+  manual l x pt = stW o (multiple o l) (x .wf) (x .wt) (x .c) .re
+  manual l x qt = stW o (multiple o l) (x .wf) (x .wt) (x .c) .im
 
-  -- 2 tm2 times the manual's flow less the column's
+  -- 2 τ² times the manual's flow less the column's
   abbrev pub less : Line A → Point A → OhmRow → A
-  less l x r = manual l x r - two * l .tm2 * held x r flow
+  less l x r = manual l x r - scale o l * held x r
 
 -- ---- in a network: the columns are those that the numbering names
 abbrev pub pointAt : {A : Type 0} → AcNetwork A → (ColumnName → A) → ℕ → Point A
@@ -72,16 +54,21 @@ pointAt G x e =
       st = record { re = x (Pt e); im = x (Qt e) };
     }
 
--- ---- from voltages: where w = |v|² and c = v_f conj(v_t), the manual's S_f = v_f conj(i_f) and S_t = v_t conj(i_t)
+-- ---- from voltages: 2 τ² times the manual's S_f = v_f conj(i_f) and S_t = v_t conj(i_t)
 module _ {A : Type 0} (o : Ops A) (l : Line A) (vf vt : Complex A) where
-  abbrev pub fromW : OhmRow → A
-  fromW pf = sfW o l (square o vf) (square o vt) (_⊗_ o vf (conj o vt)) .re
-  fromW qf = sfW o l (square o vf) (square o vt) (_⊗_ o vf (conj o vt)) .im
-  fromW pt = stW o l (square o vf) (square o vt) (_⊗_ o vf (conj o vt)) .re
-  fromW qt = stW o l (square o vf) (square o vt) (_⊗_ o vf (conj o vt)) .im
-
   abbrev pub fromV : OhmRow → A
-  fromV pf = sf o l vf vt .re
-  fromV qf = sf o l vf vt .im
-  fromV pt = st o l vf vt .re
-  fromV qt = st o l vf vt .im
+  fromV pf = sf o (multiple o l) vf vt .re
+  fromV qf = sf o (multiple o l) vf vt .im
+  fromV pt = st o (multiple o l) vf vt .re
+  fromV qt = st o (multiple o l) vf vt .im
+
+  -- where w = |v|² and c = v_f conj(v_t)
+  abbrev pub products : Point A
+  products =
+      record {
+        wf = square o vf;
+        wt = square o vt;
+        c = _⊗_ o vf (conj o vt);
+        sf = complex o (o .zero) (o .zero);
+        st = complex o (o .zero) (o .zero);
+      }

@@ -1,7 +1,7 @@
 pub mod Matpower
-pub mod Ratios
 pub mod Slack
 pub mod Flows
 pub mod Balance
+pub mod Objective
 pub mod Clarabel
 pub mod Documents

@@ -1,8 +1,9 @@
--- The MATPOWER User's Manual, chapter 3 'Modeling', on complex numbers that are pairs over any operations. Section 3.2 'Branches':
---   (3.1)  [i_f; i_t] = Ybr [v_f; v_t]
---   (3.2)  Ybr = [ (ys + j bc/2) / τ²   -ys / (τ e^(-jθ)) ]
---                [ -ys / (τ e^(jθ))     ys + j bc/2       ]
--- and section 3.6 'Network Equations', for one branch: S_f = v_f conj(i_f), S_t = v_t conj(i_t).
+-- The MATPOWER User's Manual, chapter 'Modeling', on complex numbers that are pairs over any operations. Section 'Branches': with series
+-- admittance ys = g + j b, total charging susceptance bc, tap ratio τ and phase shift θ,
+--   [i_f; i_t] = Ybr [v_f; v_t]
+--   Ybr = [ (ys + j bc/2) / τ²   -ys / (τ e^(-jθ)) ]
+--         [ -ys / (τ e^(jθ))     ys + j bc/2       ]
+-- and section 'Network Equations', for one branch: S_f = v_f conj(i_f), S_t = v_t conj(i_t).
 use Rattle.ring.specs.Ops.{Ops}
 
 pub record Complex (A : Type 0) : Type 0 where
@@ -14,14 +15,18 @@ pub record Ratio (A : Type 0) : Type 0 where
   pub over : Complex A
   pub under : Complex A
 
--- ys = g + j b, bc, τ e^(jθ) = tr + j ti, τ² = tm2
+-- a branch as the manual has it: θ by its cosine and sine
 pub record Line (A : Type 0) : Type 0 where
   pub g : A
   pub b : A
   pub bc : A
-  pub tr : A
-  pub ti : A
-  pub tm2 : A
+  pub τ : A
+  pub cosθ : A
+  pub sinθ : A
+
+-- the four elements of Ybr
+pub data Entry : Type 0 where
+  ff ft tf tt′ : Entry
 
 module _ {A : Type 0} (o : Ops A) where
   infixl 60 _+_
@@ -69,52 +74,50 @@ module _ {A : Type 0} (o : Ops A) where
     abbrev pub ends : Complex A
     ends = two ⊗ ys ⊕ complex zero (l .bc)
 
-    -- τ e^(jθ), and τ e^(-jθ)
-    abbrev pub tap : Complex A
-    tap = complex (l .tr) (l .ti)
+    -- τ²; τ e^(jθ) and τ e^(-jθ)
+    abbrev pub τ² : A
+    τ² = l .τ * l .τ
 
-    abbrev pub tapBack : Complex A
-    tapBack = complex (l .tr) (neg (l .ti))
+    abbrev pub turned : Complex A
+    turned = real (l .τ) ⊗ complex (l .cosθ) (l .sinθ)
 
-    -- ---- (3.2), with the half of bc multiplied out
-    abbrev pub yff : Ratio A
-    yff = ends ⊘ (two ⊗ real (l .tm2))
+    abbrev pub turnedBack : Complex A
+    turnedBack = real (l .τ) ⊗ complex (l .cosθ) (neg (l .sinθ))
 
-    abbrev pub yft : Ratio A
-    yft = minus ys ⊘ tapBack
+    -- ---- Ybr, with the half of bc multiplied out
+    abbrev pub ybr : Entry → Ratio A
+    ybr ff = ends ⊘ (two ⊗ real τ²)
+    ybr ft = minus ys ⊘ turnedBack
+    ybr tf = minus ys ⊘ turned
+    ybr tt′ = ends ⊘ two
 
-    abbrev pub ytf : Ratio A
-    ytf = minus ys ⊘ tap
+    -- ---- 2 τ² times Ybr: each denominator multiplied out, and "the manual's 1/e^(-jθ) read as e^(jθ)"
+    abbrev pub scale : A
+    scale = o .two * τ²
 
-    abbrev pub ytt : Ratio A
-    ytt = ends ⊘ two
+    abbrev pub multiple : Entry → Complex A
+    multiple ff = ends
+    multiple ft = minus (two ⊗ ys ⊗ turned)
+    multiple tf = minus (two ⊗ ys ⊗ turnedBack)
+    multiple tt′ = real τ² ⊗ ends
 
-    -- ---- 2 τ² times (3.2): each denominator multiplied out, and "the manual's 1/e^(-jθ) read as e^(jθ)"
-    abbrev pub scale : Complex A
-    scale = two ⊗ real (l .tm2)
+    -- both by one: two fractions are equal where the products across are
+    abbrev pub left : Entry → Complex A
+    left e = real scale ⊗ ybr e .over
 
-    abbrev pub mff : Complex A
-    mff = ends
+    abbrev pub right : Entry → Complex A
+    right e = multiple e ⊗ ybr e .under
 
-    abbrev pub mft : Complex A
-    mft = minus (two ⊗ ys ⊗ tap)
+  -- S_f = v_f conj(i_f) and S_t = v_t conj(i_t), of the four elements of Ybr or of their multiples
+  abbrev pub sf : (Entry → Complex A) → Complex A → Complex A → Complex A
+  sf y vf vt = vf ⊗ conj (y ff ⊗ vf ⊕ y ft ⊗ vt)
 
-    abbrev pub mtf : Complex A
-    mtf = minus (two ⊗ ys ⊗ tapBack)
+  abbrev pub st : (Entry → Complex A) → Complex A → Complex A → Complex A
+  st y vf vt = vt ⊗ conj (y tf ⊗ vf ⊕ y tt′ ⊗ vt)
 
-    abbrev pub mtt : Complex A
-    mtt = real (l .tm2) ⊗ ends
+  -- the same of w_f = |v_f|², w_t = |v_t|² and c = v_f conj(v_t)
+  abbrev pub sfW : (Entry → Complex A) → A → A → Complex A → Complex A
+  sfW y wf wt c = real wf ⊗ conj (y ff) ⊕ c ⊗ conj (y ft)
 
-    -- 2 τ² times S_f and S_t, with the currents of (3.1)
-    abbrev pub sf : Complex A → Complex A → Complex A
-    sf vf vt = vf ⊗ conj (mff ⊗ vf ⊕ mft ⊗ vt)
-
-    abbrev pub st : Complex A → Complex A → Complex A
-    st vf vt = vt ⊗ conj (mtf ⊗ vf ⊕ mtt ⊗ vt)
-
-    -- the same of w_f = |v_f|², w_t = |v_t|² and c = v_f conj(v_t)
-    abbrev pub sfW : A → A → Complex A → Complex A
-    sfW wf wt c = real wf ⊗ conj mff ⊕ c ⊗ conj mft
-
-    abbrev pub stW : A → A → Complex A → Complex A
-    stW wf wt c = conj c ⊗ conj mtf ⊕ real wt ⊗ conj mtt
+  abbrev pub stW : (Entry → Complex A) → A → A → Complex A → Complex A
+  stW y wf wt c = conj c ⊗ conj (y tf) ⊕ real wt ⊗ conj (y tt′)

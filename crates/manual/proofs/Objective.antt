@@ -1,0 +1,92 @@
+-- The objective: x'Px has a square for each generator, q'x a term for each generator and one for each cost column, and all other columns have 0 in q.
+-- The columns in their order are the blocks one after another. Assumes nothing.
+use Prim.Native.Nat.{ℕ, _<_}
+use mathlib.Core.Path.{_≡_, refl, sym, _∙_, ap, ap₂}
+use mathlib.Core.Bool.{Bool, true, false, cond}
+use mathlib.Core.List.{List, [], _∷_, _++_}
+use Rattle.lists.specs.UpTo.{each, listed, when}
+use Rattle.ring.specs.Ops.{Ops}
+use Rattle.ring.specs.Laws.{CommutativeRing}
+use Rattle.ring.proofs.Laws.{zero-add, zero-mul, one-mul}
+use Rattle.ring.proofs.Ring.{E, var, zeroᴱ, oneᴱ, twoᴱ, plus, times, formal, ring}
+use Rattle.records.specs.AcNetwork.{AcNetwork}
+use Rattle.numbering.specs.Numbering.{nvar, columnAt}
+use Rattle.numbering.proofs.EveryPoint.{every-column, column-placed}
+use Rattle.rows.specs.Program.{linearAt}
+use Rattle.manual.specs.Balance.{sumTo}
+use Rattle.manual.specs.Objective.{polynomial, squared, linear, polynomials, variables}
+use Rattle.manual.proofs.Sums.{sum-ext, sum-zero, sum-add, mul-sum, total, total-append, total-each, total-listed, total-when}
+use Rattle.numbering.specs.declared.ColumnName.{ColumnName}
+use Rattle.numbering.specs.declared.ColumnName.the-variants.{Pg, Qg, W, Wr, Wi, Pf, Pt, Qf, Qt, CostOf}
+
+-- what one generator adds to x'Px + 2 q'x, and twice its polynomial
+module _ {A : Type 0} (o : Ops A) where
+  infixl 60 _+_
+  infixl 70 _*_
+  open Ops o using (zero, two, _+_, _*_)
+
+  abbrev curved : A → A → A → A
+  curved cq cl p = p * (two * cq) * p + two * ((zero + cl) * p)
+
+  abbrev doubled : A → A → A → A
+  doubled cq cl p = two * polynomial o (zero ∷ cl ∷ cq ∷ []) p
+
+module _ {A : Type 0} (o : Ops A) (R : CommutativeRing o) (G : AcNetwork A) (x : ColumnName → A) where
+  infixl 60 _+_
+  infixl 70 _*_
+  open Ops o using (two, _+_, _*_)
+
+  -- what column c adds to q'x
+  abbrev costs : ColumnName → A
+  costs c = linearAt o G c * x c
+
+  -- a block of columns where q is 0 adds nothing, and those before it stay
+  idle : (n : ℕ) (c : ℕ → ColumnName) → ((i : ℕ) → linearAt o G (c i) ≡ o .zero) → (xs : List A) → total o R (xs ++ each n (λ i. costs (c i) ∷ [])) ≡ total o R xs
+  idle n c h xs =
+      total-append o R xs (each n (λ i. costs (c i) ∷ []))
+      ∙ ap (λ t. total o R xs + t)
+      (total-listed o R n (λ i. costs (c i)) ∙ sum-zero o R n (λ i. costs (c i)) (λ i l. ap (λ t. t * x (c i)) (h i) ∙ zero-mul o R (x (c i))))
+      ∙ R .add-zero (total o R xs)
+
+  -- a cost column's 1, where the generator has one
+  priced : (b : Bool) (g : ℕ) → total o R (when b (costs (CostOf g) ∷ [])) ≡ cond b (x (CostOf g)) (o .zero)
+  priced true g = R .add-zero (costs (CostOf g)) ∙ ap (λ t. t * x (CostOf g)) (zero-add o R (o .one)) ∙ one-mul o R (x (CostOf g))
+  priced false g = total-when o R false (costs (CostOf g))
+
+  linear-law : linear o G x ≡ sumTo o (G .k) (λ g. costs (Pg g)) + variables o G x
+  linear-law =
+      let pg : List A = each (G .k) (λ g. costs (Pg g) ∷ []) in
+      let qg : List A = pg ++ each (G .k) (λ g. costs (Qg g) ∷ []) in
+      let w : List A = qg ++ each (G .n) (λ i. costs (W i) ∷ []) in
+      let wr : List A = w ++ each (G .m) (λ e. costs (Wr e) ∷ []) in
+      let wi : List A = wr ++ each (G .m) (λ e. costs (Wi e) ∷ []) in
+      let pf : List A = wi ++ each (G .m) (λ e. costs (Pf e) ∷ []) in
+      let pt : List A = pf ++ each (G .m) (λ e. costs (Pt e) ∷ []) in
+      let qf : List A = pt ++ each (G .m) (λ e. costs (Qf e) ∷ []) in
+      let qt : List A = qf ++ each (G .m) (λ e. costs (Qt e) ∷ []) in
+      let cost : List A = each (G .k) (λ g. when (G .piecewise g) (costs (CostOf g) ∷ [])) in
+      sym (total-listed o R (nvar G) (λ c. costs (columnAt G c)))
+      ∙ ap (total o R) (every-column G (λ c. costs (columnAt G c) ∷ []) (λ c. costs c ∷ []) (λ c h. ap (λ (d : ColumnName). costs d ∷ []) (column-placed G c h)))
+      ∙ total-append o R qt cost
+      ∙ ap₂ _+_
+      (idle (G .m) Qt (λ i. refl) qf ∙ idle (G .m) Qf (λ i. refl) pt ∙ idle (G .m) Pt (λ i. refl) pf ∙ idle (G .m) Pf (λ i. refl) wi
+      ∙ idle (G .m) Wi (λ i. refl) wr ∙ idle (G .m) Wr (λ i. refl) w ∙ idle (G .n) W (λ i. refl) qg ∙ idle (G .k) Qg (λ i. refl) pg
+      ∙ total-listed o R (G .k) (λ g. costs (Pg g)))
+      (total-each o R (G .k) (λ g. when (G .piecewise g) (costs (CostOf g) ∷ []))
+      ∙ sum-ext o R (G .k) (λ g. total o R (when (G .piecewise g) (costs (CostOf g) ∷ []))) (λ g. cond (G .piecewise g) (x (CostOf g)) (o .zero)) (λ g l. priced (G .piecewise g) g))
+
+  -- one generator
+  generator : (g : ℕ) → curved o (G .cq g) (G .cl g) (x (Pg g)) ≡ doubled o (G .cq g) (G .cl g) (x (Pg g))
+  generator g = ring o R (curved formal (var 0) (var 1) (var 2)) (doubled formal (var 0) (var 1) (var 2)) (G .cq g ∷ G .cl g ∷ x (Pg g) ∷ []) tt
+
+  pub objective-law : squared o G x + two * linear o G x ≡ two * (polynomials o G x + variables o G x)
+  objective-law =
+      ap (λ t. squared o G x + two * t) linear-law
+      ∙ ap (λ t. squared o G x + t) (R .mul-add two (sumTo o (G .k) (λ g. costs (Pg g))) (variables o G x))
+      ∙ sym (R .add-assoc (squared o G x) (two * sumTo o (G .k) (λ g. costs (Pg g))) (two * variables o G x))
+      ∙ ap (λ t. t + two * variables o G x)
+      (ap (λ t. squared o G x + t) (mul-sum o R (G .k) two (λ g. costs (Pg g)))
+      ∙ sym (sum-add o R (G .k) (λ g. x (Pg g) * (two * G .cq g) * x (Pg g)) (λ g. two * costs (Pg g)))
+      ∙ sum-ext o R (G .k) (λ g. curved o (G .cq g) (G .cl g) (x (Pg g))) (λ g. doubled o (G .cq g) (G .cl g) (x (Pg g))) (λ g h. generator g)
+      ∙ sym (mul-sum o R (G .k) two (λ g. polynomial o (o .zero ∷ G .cl g ∷ G .cq g ∷ []) (x (Pg g)))))
+      ∙ sym (R .mul-add two (polynomials o G x) (variables o G x))
