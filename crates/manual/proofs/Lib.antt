@@ -7,3 +7,7 @@ pub mod Objective
 pub mod Jabr
 pub mod Split
 pub mod Voltages
+pub mod Rows
+pub mod Products
+pub mod Cones
+pub mod Documents
