@@ -1,2 +1,3 @@
 pub mod Sums
 pub mod Raised
+pub mod Derived

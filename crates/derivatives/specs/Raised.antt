@@ -2,13 +2,13 @@
 use Prim.Native.Nat.{ℕ}
 use mathlib.Core.Bool.{cond}
 use lib.Dec.{eqb}
-use Rattle.records.specs.AcNetwork.{Branch, AcNetwork}
+use Rattle.records.specs.AcNetwork.{BranchData, AcNetwork}
 use Rattle.ring.specs.Ops.{Ops}
 use Rattle.interface.specs.declared.GB.{GB}
 use Rattle.interface.specs.declared.GB.the-variants.{Conductance, Susceptance}
 
 -- the network with other branches and shunts
-abbrev pub changed : {A : Type 0} → (ℕ → Branch A) → (ℕ → A) → (ℕ → A) → AcNetwork A → AcNetwork A
+abbrev pub changed : {A : Type 0} → (ℕ → BranchData A) → (ℕ → A) → (ℕ → A) → AcNetwork A → AcNetwork A
 changed branch gs bs G =
     record {
       n = G .n;
@@ -54,9 +54,9 @@ module _ {A : Type 0} (o : Ops A) (d : A) where
   infixl 60 _+_
   open Ops o using (_+_)
 
-  abbrev pub more : GB → Branch A → Branch A
-  more Conductance t = record { g = t .g + d; b = t .b; gfr = t .gfr; bfr = t .bfr; gto = t .gto; bto = t .bto; tr = t .tr; ti = t .ti; tm2 = t .tm2 }
-  more Susceptance t = record { g = t .g; b = t .b + d; gfr = t .gfr; bfr = t .bfr; gto = t .gto; bto = t .bto; tr = t .tr; ti = t .ti; tm2 = t .tm2 }
+  abbrev pub more : GB → BranchData A → BranchData A
+  more Conductance t = record { g = t .g + d; b = t .b; gfr = t .gfr; bfr = t .bfr; gto = t .gto; bto = t .bto; tap = t .tap; cosine = t .cosine; sine = t .sine }
+  more Susceptance t = record { g = t .g; b = t .b + d; gfr = t .gfr; bfr = t .bfr; gto = t .gto; bto = t .bto; tap = t .tap; cosine = t .cosine; sine = t .sine }
 
   abbrev pub moreAt : ℕ → (ℕ → A) → ℕ → A
   moreAt i f j = cond (eqb j i) (f j + d) (f j)

@@ -3,7 +3,7 @@ use Prim.Native.Nat.{ℕ}
 use mathlib.Core.Bool.{cond}
 use mathlib.Core.List.{List, [], _∷_}
 use lib.Dec.{eqb}
-use Rattle.records.specs.AcNetwork.{AcNetwork}
+use Rattle.records.specs.AcNetwork.{AcNetwork, branchAt}
 use Rattle.numbering.specs.declared.ColumnName.{ColumnName}
 use Rattle.numbering.specs.declared.ColumnName.the-variants.{W}
 use Rattle.ring.specs.Ops.{Ops}
@@ -28,10 +28,10 @@ module _ {A : Type 0} (o : Ops A) (x : ColumnName → A) (G : AcNetwork A) where
   abbrev pub entries : ℕ → OhmRow → List (Slope A) → A
   entries e r [] = zero
   entries e r (s ∷ ss) =
-      cond (eqb (code (s .row)) (code r)) (scaled o (G .branch e .tm2) (s .value) * x (ohmColumn G (s .row) (s .place) e) + entries e r ss) (entries e r ss)
+      cond (eqb (code (s .row)) (code r)) (scaled o (branchAt o G e .tm2) (s .value) * x (ohmColumn G (s .row) (s .place) e) + entries e r ss) (entries e r ss)
 
   abbrev pub seriesRow : GB → ℕ → OhmRow → A
-  seriesRow gb e r = entries e r (series o (G .branch e .tr) (G .branch e .ti) gb)
+  seriesRow gb e r = entries e r (series o (branchAt o G e .tr) (branchAt o G e .ti) gb)
 
   -- the shunt entry of bus i times x
   abbrev pub shuntTimes : GB → ℕ → A
