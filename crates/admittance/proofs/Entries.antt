@@ -4,7 +4,7 @@ use mathlib.Core.Path.{_≡_, refl, _∙_}
 use mathlib.Core.List.{List}
 use lib.Ieee.{Float}
 use Rattle.records.specs.AcNetwork.{AcNetwork}
-use Rattle.records.specs.Network.{branchOf}
+use Rattle.rows.specs.Branch.{branchOf}
 use Rattle.numbering.specs.Numbering.{rowNumber, columnNumber}
 use Rattle.numbering.specs.Layout.{nvarOf}
 use Rattle.numbering.specs.Laid.{netOf, Laid}

@@ -3,7 +3,8 @@ use Prim.Native.Nat.{ℕ}
 use mathlib.Core.List.{List, [], _∷_, _++_}
 use lib.ListN.{getD}
 use lib.Ieee.{Float, binary64, nan, mul}
-use Rattle.records.specs.AcNetwork.{AcNetwork, branchAt}
+use Rattle.records.specs.AcNetwork.{AcNetwork}
+use Rattle.rows.specs.Branch.{branchAt}
 use Rattle.numbering.specs.Numbering.{columnNumber, rowNumber}
 use Rattle.numbering.specs.declared.ColumnName.{ColumnName}
 use Rattle.numbering.specs.declared.ColumnName.the-variants.{W}

@@ -1,7 +1,7 @@
 -- What the coefficients of the five floats and a shunt are of a branch: a formula uses no more of the branch, so all is computed. Assumes nothing.
 use mathlib.Core.Path.{_≡_}
 use lib.Ieee.{Float}
-use Rattle.records.specs.AcNetwork.{Branch}
+use Rattle.rows.specs.Branch.{Branch}
 use Rattle.rows.specs.Rows.{OhmRow, pf, qf, pt, qt, w, wr, wi, zero64, ohmValue}
 use Rattle.branch.specs.Series.{seriesOf}
 use Rattle.branch.specs.Ohm.{shuntOf, branchWith}

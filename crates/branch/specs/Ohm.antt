@@ -1,6 +1,6 @@
 -- The coefficients of the Ohm rows as the code gathers them.
 use lib.Ieee.{Float}
-use Rattle.records.specs.AcNetwork.{Branch}
+use Rattle.rows.specs.Branch.{Branch}
 use Rattle.rows.specs.Rows.{OhmRow, pf, qf, pt, qt, OhmPlace, ohmValue}
 use Rattle.branch.specs.declared.Series.{Series}
 use Rattle.branch.specs.declared.Products.{Products}

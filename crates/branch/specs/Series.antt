@@ -1,6 +1,6 @@
 -- Document 01: "Per branch, the products of tap are gathered in a struct of five floats: g, b, tr, ti, tm2".
 use lib.Ieee.{Float}
-use Rattle.records.specs.AcNetwork.{Branch}
+use Rattle.rows.specs.Branch.{Branch}
 use Rattle.branch.specs.declared.Series.{Series}
 
 -- the five floats of a branch

@@ -12,7 +12,7 @@ ghost use mathlib.Core.Path.{_≡_};
 ghost use Prim.Native.Nat.{_+_, _*_, _≤_};
 ghost use lib.ListN.{length};
 ghost use Rattle.records.specs.Fields.{angledOf};
-ghost use Rattle.records.specs.Network.{branchOf};
+ghost use Rattle.rows.specs.Branch.{branchOf};
 ghost use Rattle.branch.specs.Series.{seriesOf};
 
 pub mod ohm;

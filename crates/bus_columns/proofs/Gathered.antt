@@ -12,7 +12,8 @@ use Rattle.lists.specs.Compressed.{cellOut, WroteCells}
 use Rattle.lists.proofs.Each.{part-each}
 use Rattle.lists.proofs.Compressed.{valsOf, vals-sets, len-vals, pos}
 use Rattle.ring.specs.Ops.{rounded}
-use Rattle.records.specs.AcNetwork.{AcNetwork, branchAt}
+use Rattle.records.specs.AcNetwork.{AcNetwork}
+use Rattle.rows.specs.Branch.{branchAt}
 use Rattle.rows.specs.Rows.{OhmRow, pf, qf, pt, qt, w, ohmValue}
 use Rattle.cells.specs.Filled.{Filled}
 use Rattle.bus_columns.specs.Gathered.{placeOf, fourOf, Gathered}

@@ -7,7 +7,8 @@ use lib.Seq.{sets}
 use lib.Ieee.{Float, nan}
 use Rattle.lists.specs.UpTo.{each}
 use Rattle.ring.specs.Ops.{rounded}
-use Rattle.records.specs.AcNetwork.{AcNetwork, branchAt}
+use Rattle.records.specs.AcNetwork.{AcNetwork}
+use Rattle.rows.specs.Branch.{branchAt}
 use Rattle.rows.specs.Rows.{OhmRow, pf, qf, pt, qt, w, ohmValue}
 
 -- the place of an Ohm row among a branch's four

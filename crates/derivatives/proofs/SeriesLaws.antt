@@ -9,7 +9,8 @@ use lib.Dec.{eqb}
 use borrow.Author.Tests.{eq-eqb, ne-eqb}
 use Rattle.ring.specs.Laws.{CommutativeRing}
 use Rattle.ring.proofs.Ring.{E, var, formal, ring, Same, den}
-use Rattle.records.specs.AcNetwork.{BranchData, Branch, AcNetwork, gathered, branchAt}
+use Rattle.records.specs.AcNetwork.{BranchData, AcNetwork}
+use Rattle.rows.specs.Branch.{Branch, gathered, branchAt}
 use Rattle.numbering.specs.declared.ColumnName.{ColumnName}
 use Rattle.numbering.specs.declared.ColumnName.the-variants.{W, Wr, Wi}
 use Rattle.numbering.specs.declared.RowName.{RowName}

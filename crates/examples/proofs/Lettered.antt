@@ -8,7 +8,7 @@ use Rattle.refusals.specs.declared.Checked.the-variants.{Refused}
 use Rattle.refusals.specs.declared.Refusal.the-variants.{CountTooLarge}
 use Rattle.records.specs.Bytes.{le16, le32, le64}
 use Rattle.records.specs.Fields.{kindOf, flagsOf, countOf, idOf, firstOf, secondOf, bitsOf, floatOf, flagBit, gOf, bOf, gFrOf, bFrOf, gToOf, bToOf, tapOf, limitedOf, piecewiseOf, segmentsOf, angledOf}
-use Rattle.records.specs.AcNetwork.{gathered}
+use Rattle.rows.specs.Branch.{gathered}
 use Rattle.records.specs.Network.{branchDataOf}
 use Rattle.records.specs.Check.{countCause, lengthCause, zeroFloats, busForm, branchForm, genForm, segmentForm, busCause, branchCause, genCause, segmentCause, pick, recordCause, recordCauses, countSum, sumCause, checkOf}
 use Rattle.numbering.specs.Blocks.{start, size, before, total, numberOf}

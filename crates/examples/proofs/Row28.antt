@@ -13,8 +13,9 @@ use Rattle.lists.specs.UpTo.{upTo, each, when, bit}
 use Rattle.lists.specs.Entries.{Entry, entry, sits, times}
 use Rattle.records.specs.Bytes.{le16, le32, le64}
 use Rattle.records.specs.Fields.{flagsOf, countOf, firstOf, secondOf, bitsOf, floatOf, flagBit, gOf, bOf, gFrOf, bFrOf, gToOf, bToOf, tapOf, limitedOf, piecewiseOf, segmentsOf, angledOf}
-use Rattle.records.specs.AcNetwork.{AcNetwork, gathered}
+use Rattle.records.specs.AcNetwork.{AcNetwork}
 use Rattle.records.specs.Network.{branchDataOf, segmentRecord}
+use Rattle.rows.specs.Branch.{gathered}
 use Rattle.numbering.specs.Blocks.{start, size, before, total, numberOf}
 use Rattle.numbering.specs.Numbering.{columnTable, rowTable, columnBlocks, rowBlocks, nvar, ncon, columnNumber, rowNumber}
 use Rattle.numbering.specs.declared.ColumnName.the-variants.{Wr, Wi}

@@ -7,7 +7,8 @@ use lib.Ieee.{Float, ne}
 use Rattle.lists.specs.UpTo.{when}
 use Rattle.lists.specs.Entries.{entry}
 use Rattle.ring.specs.Ops.{rounded}
-use Rattle.records.specs.AcNetwork.{AcNetwork, branchAt}
+use Rattle.records.specs.AcNetwork.{AcNetwork}
+use Rattle.rows.specs.Branch.{branchAt}
 use Rattle.numbering.specs.Numbering.{columnNumber, rowNumber}
 use Rattle.numbering.specs.Layout.{layoutColumn}
 use Rattle.numbering.specs.Laid.{netOf, Laid}

@@ -133,8 +133,8 @@ module _ {A : Type 0} (o : Ops A) (R : CommutativeRing o) where
       elim (decLt t n) [
         | yes l ↦ last-none (eqb t n) (picked n t f) (f n) (ne-eqb t n (λ e. omega arith)) ∙ pick n t f l
         | no l ↦
-          let e : t ≡ n = omega arith in
-          last-one (eqb t n) (picked n t f) (f n) (eq-eqb t n e) (pick-none n t f (omega arith)) ∙ ap f (sym e)
+            let e : t ≡ n = omega arith in
+            last-one (eqb t n) (picked n t f) (f n) (eq-eqb t n e) (pick-none n t f (omega arith)) ∙ ap f (sym e)
       ]
 
   -- ---- a factor divided out
@@ -156,5 +156,5 @@ module _ {A : Type 0} (o : Ops A) (R : CommutativeRing o) where
   pub complex-cancel : (a b u : Complex A) → Cancels o (square o u) → _⊠_ o a u ≡ _⊠_ o b u → a ≡ b
   complex-cancel a b u c h =
       let e : weighed o (square o u) a ≡ weighed o (square o u) b =
-          law grown back a u u u tt tt ∙ ap (λ (t : Complex A). _⊠_ o t (conj o u)) h ∙ law back grown b u u u tt tt in
+      law grown back a u u u tt tt ∙ ap (λ (t : Complex A). _⊠_ o t (conj o u)) h ∙ law back grown b u u u tt tt in
       parts (cancel (square o u) (a .re) (b .re) c (ap (λ (t : Complex A). t .re) e)) (cancel (square o u) (a .im) (b .im) c (ap (λ (t : Complex A). t .im) e))

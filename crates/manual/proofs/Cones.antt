@@ -255,7 +255,10 @@ module _ (G : AcNetwork ℤ) (x : ColumnName → ℤ) where
 
       pub to-product : Meant G x → InProduct (cones G) (slacks G x)
       to-product m =
-          by-cones .1
-          ((equal-holds .1 (((((m .pbal, m .qbal), (λ e l. m .ohm e l pf)), (λ e l. m .ohm e l qf)), (λ e l. m .ohm e l pt)), (λ e l. m .ohm e l qt)),
-          bounds-hold .1 ((((((((m .wub, m .wlb), m .pgub), m .pglb), m .qgub), m .qglb), m .angub), m .anglb), (λ g l t n. m .cost g t l n))),
-          (fours-hold .1 (λ e l. four-law e .1 (m .jabr e l)), threes-hold .1 (λ e l q. (three-from e .1 (m .thermal-from e l q), three-to e .1 (m .thermal-to e l q)))))
+          by-cones .1 (
+            (
+              equal-holds .1 (((((m .pbal, m .qbal), (λ e l. m .ohm e l pf)), (λ e l. m .ohm e l qf)), (λ e l. m .ohm e l pt)), (λ e l. m .ohm e l qt)),
+              bounds-hold .1 ((((((((m .wub, m .wlb), m .pgub), m .pglb), m .qgub), m .qglb), m .angub), m .anglb), (λ g l t n. m .cost g t l n)),
+            ),
+            (fours-hold .1 (λ e l. four-law e .1 (m .jabr e l)), threes-hold .1 (λ e l q. (three-from e .1 (m .thermal-from e l q), three-to e .1 (m .thermal-to e l q)))),
+          )

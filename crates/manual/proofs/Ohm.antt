@@ -7,7 +7,8 @@ use Rattle.ring.specs.Laws.{CommutativeRing}
 use Rattle.ring.proofs.Ring.{E, var, formal, ring}
 use Rattle.rows.specs.Rows.{OhmRow, pf, qf, pt, qt, OhmPlace, w, wr, wi, flow, ohm, ohmRow, flowColumn}
 use Rattle.rows.specs.Scaled.{scaled}
-use Rattle.records.specs.AcNetwork.{BranchData, AcNetwork, gathered}
+use Rattle.records.specs.AcNetwork.{BranchData, AcNetwork}
+use Rattle.rows.specs.Branch.{gathered}
 use Rattle.manual.specs.Matpower.{Complex, Line, scale, conj, _⊗_, square}
 use Rattle.manual.specs.Slack.{slack}
 use Rattle.manual.specs.Flows.{Point, lineOf, held, manual, less, pointAt, fromV, products}

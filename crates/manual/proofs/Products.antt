@@ -19,12 +19,13 @@ use Rattle.manual.specs.Clarabel.{Cone, secondOrder, rowsOf, InNorm, InK
 
 -- ---- what holds up to n, and at n
 pub next : (P : ℕ → Type 0) (n : ℕ) → (((i : ℕ) → i < n → P i) × P n) ↔ ((i : ℕ) → i < suc n → P i)
-next P n =
-    ((λ p i l. elim (decLt i n) [
-        | yes h ↦ p .0 i h
-        | no h ↦ let e : n ≡ i = omega arith in subst P e (p .1)
-      ]),
-      (λ p. ((λ i l. p i (omega arith)), p n (omega arith))))
+next P n = (
+  (λ p i l. elim (decLt i n) [
+    | yes h ↦ p .0 i h
+    | no h ↦ let e : n ≡ i = omega arith in subst P e (p .1)
+  ]),
+  (λ p. ((λ i l. p i (omega arith)), p n (omega arith))),
+)
 
 -- ---- every element of a list
 module _ (P : ℤ → Type 0) where

@@ -156,8 +156,16 @@ module _ {A : Type 0} (o : Ops A) (R : CommutativeRing o) where
     jabr-equal e below =
         let vf : Complex A = v (G .from e) in
         let vt : Complex A = v (G .to e) in
-        rw (jabr-sum o R G x e, jabr-real o R G x e, jabr-imaginary o R G x e, jabr-difference o R G x e,
-          H .squares (G .from e) (H .buses-below e below .0), H .squares (G .to e) (H .buses-below e below .1), H .real-part e below, H .imaginary-part e below)
+        rw (
+          jabr-sum o R G x e,
+          jabr-real o R G x e,
+          jabr-imaginary o R G x e,
+          jabr-difference o R G x e,
+          H .squares (G .from e) (H .buses-below e below .0),
+          H .squares (G .to e) (H .buses-below e below .1),
+          H .real-part e below,
+          H .imaginary-part e below,
+        )
         (ring o R
         (squares formal (times twoᴱ (_⊠_ formal aF (conj formal bF) .re) ∷ times twoᴱ (_⊠_ formal aF (conj formal bF) .im) ∷ minus (square formal aF) (square formal bF) ∷ []))
         (times (plus (square formal aF) (square formal bF)) (plus (square formal aF) (square formal bF)))

@@ -10,7 +10,8 @@ use Rattle.lists.specs.UpTo.{upTo, each, when}
 use Rattle.lists.specs.Entries.{Cell}
 use Rattle.lists.proofs.Each.{when-false, when-nil, when-swap, when-append, each-nil, each-ext, each-when, each-at, each-at′, each-at-when, each-hit, each-group, each-three, each-four, when-pairs, when-order}
 use Rattle.ring.specs.Ops.{rounded}
-use Rattle.records.specs.AcNetwork.{AcNetwork, branchAt}
+use Rattle.records.specs.AcNetwork.{AcNetwork}
+use Rattle.rows.specs.Branch.{branchAt}
 use Rattle.records.proofs.Sound.{Sound}
 use Rattle.numbering.specs.Numbering.{columnKey, rowNumber}
 use Rattle.numbering.specs.declared.ColumnName.{ColumnName}

@@ -6,7 +6,8 @@ use lib.Ieee.{Float, neg, ne}
 use Rattle.lists.specs.UpTo.{each, when}
 use Rattle.lists.specs.Entries.{Cell, cell}
 use Rattle.ring.specs.Ops.{rounded}
-use Rattle.records.specs.AcNetwork.{AcNetwork, branchAt}
+use Rattle.records.specs.AcNetwork.{AcNetwork}
+use Rattle.rows.specs.Branch.{branchAt}
 use Rattle.numbering.specs.Numbering.{rowNumber}
 use Rattle.numbering.specs.declared.ColumnName.{ColumnName}
 use Rattle.numbering.specs.declared.ColumnName.the-variants.{Pg, Qg, W, Wr, Wi, Pf, Pt, Qf, Qt, CostOf}

@@ -11,8 +11,9 @@ use Rattle.lists.specs.Compressed.{CellOut}
 use Rattle.lists.proofs.Each.{each-ext}
 use Rattle.lists.proofs.Sums.{bit-le, sum-mono}
 use Rattle.ring.specs.Ops.{rounded}
-use Rattle.records.specs.AcNetwork.{AcNetwork, branchAt}
+use Rattle.records.specs.AcNetwork.{AcNetwork}
 use Rattle.records.specs.Fields.{slopeOf}
+use Rattle.rows.specs.Branch.{branchAt}
 use Rattle.records.proofs.Segments.{segment-record}
 use Rattle.numbering.specs.Layout.{layoutRow}
 use Rattle.numbering.specs.Numbering.{rowNumber}

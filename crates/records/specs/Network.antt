@@ -8,10 +8,9 @@ use lib.ListN.{length}
 use lib.Ieee.{Float}
 use Rattle.lists.specs.UpTo.{sum}
 use Rattle.records.specs.Fields.{countOf, idOf, voltageBoundOf, gsOf, bsOf, pdOf, qdOf, vmMinOf, vmMaxOf, limitedOf, fromOf, toOf, gOf, bOf, gFrOf, bFrOf, gToOf, bToOf, tapOf, cosShiftOf, sinShiftOf, angminOf, angmaxOf, tanAngminOf, tanAngmaxOf, rateAOf, angledOf, capabilityOf, piecewiseOf, segmentsOf, genBusOf, pminOf, pmaxOf, qminOf, qmaxOf, cqOf, clOf, ccOf, slopeOf, interceptOf}
-use Rattle.ring.specs.Ops.{rounded}
-use Rattle.records.specs.AcNetwork.{BranchData, Branch, gathered, AcNetwork}
+use Rattle.records.specs.AcNetwork.{BranchData, AcNetwork}
 
--- the branch at record r, and with its products
+-- the branch at record r
 unfoldable pub branchDataOf : List ℕ → ℕ → BranchData Float
 branchDataOf b r =
     record {
@@ -25,9 +24,6 @@ branchDataOf b r =
       cosine = cosShiftOf b r;
       sine = sinShiftOf b r;
     }
-
-abbrev pub branchOf : List ℕ → ℕ → Branch Float
-branchOf b r = gathered rounded (branchDataOf b r)
 
 -- "Segments follow in generator order": how many belong to the generators before g, and the record of segment t of generator g
 abbrev pub segmentsBefore : (n m : ℕ) → List ℕ → ℕ → ℕ

@@ -1,3 +1,4 @@
+pub mod Branch
 pub mod Rows
 pub mod Scaled
 pub mod Program

@@ -8,7 +8,8 @@ use lib.Ieee.{Float, binary64, ofBits, ne, div}
 use lib.Ieee as Ieee
 use Rattle.lists.specs.UpTo.{each, when}
 use Rattle.ring.specs.Ops.{Ops, rounded}
-use Rattle.records.specs.AcNetwork.{Branch, AcNetwork, branchAt}
+use Rattle.records.specs.AcNetwork.{AcNetwork}
+use Rattle.rows.specs.Branch.{Branch, branchAt}
 use Rattle.numbering.specs.declared.ColumnName.{ColumnName}
 use Rattle.numbering.specs.declared.ColumnName.the-variants.{Pg, Qg, W, Wr, Wi, Pf, Pt, Qf, Qt, CostOf}
 use Rattle.numbering.specs.declared.RowName.{RowName}

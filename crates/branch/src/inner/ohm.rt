@@ -9,7 +9,7 @@ use records::inner::g_to;
 ghost use mathlib.Core.Path.{_≡_};
 ghost use Prim.Native.Nat.{_+_, _*_, _≤_};
 ghost use lib.ListN.{length};
-ghost use Rattle.records.specs.Network.{branchOf};
+ghost use Rattle.rows.specs.Branch.{branchOf};
 ghost use Rattle.rows.specs.Rows.{zero64, ohmValue, w, wr, wi};
 ghost use Rattle.branch.specs.Series.{seriesOf};
 ghost use Rattle.branch.specs.Ohm.{rowKind, shuntOf, branchWith, productsOf};

@@ -1,6 +1,6 @@
 -- `branch::inner::series` meets its contract. Assumes nothing.
 use borrow.Author.Needs.{needs}
-use Rattle.records.specs.AcNetwork.{gathered}
+use Rattle.rows.specs.Branch.{gathered}
 use Rattle.records.specs.Network.{branchDataOf}
 use Rattle.branch.proofs.inner.series.Statement.{statement}
 use Rattle.branch.proofs.inner.series.Tie as tie

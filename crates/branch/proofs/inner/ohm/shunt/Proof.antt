@@ -1,5 +1,5 @@
 -- `branch::inner::ohm::shunt` meets its contract: each arm reads the branch's own field. Assumes nothing.
-use Rattle.records.specs.AcNetwork.{gathered}
+use Rattle.rows.specs.Branch.{gathered}
 use Rattle.records.specs.Network.{branchDataOf}
 use borrow.Author.Needs.{needs}
 use Rattle.branch.proofs.inner.ohm.shunt.Statement.{statement}

@@ -11,7 +11,7 @@ use lib.ListN.{getD}
 use lib.Ieee.{nan}
 use Rattle.lists.proofs.Compressed.{wrote-none}
 use Rattle.ring.specs.Ops.{rounded}
-use Rattle.records.specs.AcNetwork.{branchAt}
+use Rattle.rows.specs.Branch.{branchAt}
 use Rattle.numbering.specs.Laid.{netOf}
 use Rattle.rows.specs.Rows.{w, ohmValue}
 use Rattle.branch.specs.Ohm.{rowKind}

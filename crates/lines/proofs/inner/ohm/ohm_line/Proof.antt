@@ -2,7 +2,7 @@
 use mathlib.Core.Path.{_≡_, _∙_}
 use denote.Ref.{now}
 use Rattle.ring.specs.Ops.{rounded}
-use Rattle.records.specs.AcNetwork.{branchAt}
+use Rattle.rows.specs.Branch.{branchAt}
 use Rattle.numbering.specs.Laid.{netOf}
 use Rattle.branch.specs.Ohm.{rowKind}
 use Rattle.branch.proofs.Coefficients.{wr-of, wi-of}
