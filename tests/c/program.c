@@ -188,6 +188,23 @@ static void example_d(void) {
     EXPECT(same(one_list(net, socwr_program_b, 15) + 12, sides, 3));
 }
 
+/* A piecewise generator with cq and cl: the program minimises cq p² + cl p + t, the cost read is the segment's alone. */
+static void two_costs(void) {
+    static const double costs[7] = {0.0, 0.0, 0.0, 0.0, 1.0, 2.0, 0.0}, slope = 3.0, p = 2.0;
+    static const double q[4] = {2.0, 0.0, 0.0, 1.0}, at_one[4] = {1.0, 0.0, 0.0, 3.0};
+    put(0, 1, 0, 0, 0, 0);
+    put(1, 3, 2, 1, 0, 0);
+    put(2, 4, 0, 0, 0, 0);
+    put_floats(1, costs, 7);
+    put_floats(2, &slope, 1);
+    network net = lent(1, 0, 1, 1);
+    columns c = by_columns(net, socwr_program_p, 5, 1);
+    EXPECT(c.rows[0] == 0 && c.starts[1] == 1 && same(c.values, &p, 1));
+    EXPECT(same(one_list(net, socwr_program_q, 4), q, 4));
+    const double *x = lend_read(at_one, sizeof at_one);
+    EXPECT(scalar(socwr_objective(NET(net), SOCWR_NETWORK_GENERATOR_COST, x, 4, 9.0), 0, 0, 3.0));
+}
+
 /* C: no column and no row, but one start. */
 static void example_c(void) {
     static const uint32_t zero = 0;
@@ -316,6 +333,7 @@ static void all(void) {
     example_h();
     tap_zero();
     example_d();
+    two_costs();
     example_c();
     prices();
     reading_check();

@@ -2,17 +2,15 @@
 -- other row has the branch's numbers. Assumes nothing.
 use Prim.Native.Nat.{ℕ}
 use mathlib.Core.Path.{_≡_, refl, sym, ap, _∙_}
-use mathlib.Core.Bool.{Bool, true, false, cond}
+use mathlib.Core.Bool.{cond}
 use mathlib.Core.List.{List, [], _∷_}
-use native.Mathlib.Decide.{ℕ-discrete}
 use lib.Dec.{eqb}
 use borrow.Author.Tests.{eq-eqb, ne-eqb}
 use Rattle.ring.specs.Laws.{CommutativeRing}
-use Rattle.ring.proofs.Ring.{E, var, formal, ring, Same, den}
+use Rattle.ring.proofs.Ring.{E, var, formal, ring}
 use Rattle.records.specs.AcNetwork.{BranchData, AcNetwork}
 use Rattle.rows.specs.Branch.{Branch, gathered, branchAt}
 use Rattle.numbering.specs.declared.ColumnName.{ColumnName}
-use Rattle.numbering.specs.declared.ColumnName.the-variants.{W, Wr, Wi}
 use Rattle.numbering.specs.declared.RowName.{RowName}
 use Rattle.numbering.specs.declared.RowName.the-variants.{Pbal, Qbal, OhmPf, OhmQf, OhmPt, OhmQt, Wub, Wlb, Pgub, Pglb, Qgub, Qglb, Angub, Anglb, Segment, Jabr, Thermal}
 use Rattle.ring.specs.Ops.{Ops}

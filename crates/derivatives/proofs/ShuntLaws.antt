@@ -1,10 +1,8 @@
 -- The shunt entries are the derivative of A by gs, or by bs: they stand in one cell of the bus's balance row, and what d more adds there is a polynomial
 -- identity. Assumes nothing.
 use Prim.Native.Nat.{ℕ}
-use mathlib.Core.Path.{_≡_, refl, sym, ap, ap₂, _∙_}
-use mathlib.Core.Bool.{cond}
+use mathlib.Core.Path.{_≡_, refl, sym, ap, _∙_}
 use mathlib.Core.List.{List, [], _∷_, _++_}
-use lib.Dec.{eqb}
 use borrow.Author.Tests.{eq-eqb, ne-eqb}
 use Rattle.ring.specs.Laws.{CommutativeRing}
 use Rattle.ring.proofs.Laws.{zero-add}

@@ -15,7 +15,7 @@ use Rattle.records.specs.AcNetwork.{AcNetwork}
 use Rattle.rows.specs.Scaled.{scaled, sum}
 use Rattle.manual.specs.Matpower.{Complex, _⊕_, _⊗_, conj, real, minus}
 use Rattle.manual.specs.Slack.{slack}
-use Rattle.manual.specs.Balance.{sumTo, joined, joins, mismatch}
+use Rattle.manual.specs.Balance.{sumTo, joined, mismatch}
 use Rattle.numbering.specs.declared.ColumnName.{ColumnName}
 use Rattle.numbering.specs.declared.ColumnName.the-variants.{Pg, Qg, W, Pf, Pt, Qf, Qt}
 use Rattle.numbering.specs.declared.RowName.the-variants.{Pbal, Qbal}

@@ -1,6 +1,6 @@
 -- Complex numbers over a commutative ring: their laws, part by part; sums of them; and a factor divided out. Assumes nothing.
 use Prim.Native.Nat.{ℕ, zero, suc, _≤_, _<_}
-use mathlib.Core.Path.{_≡_, refl, sym, _∙_, ap, ap₂}
+use mathlib.Core.Path.{_≡_, refl, sym, _∙_, ap}
 use mathlib.Core.Bool.{Bool, true, false, cond}
 use mathlib.Core.List.{List, [], _∷_}
 use native.Mathlib.Omega.{arith}
@@ -9,10 +9,10 @@ use borrow.Author.Tests.{eq-eqb, ne-eqb}
 use lib.Dec.{eqb}
 use Rattle.ring.specs.Ops.{Ops}
 use Rattle.ring.specs.Laws.{CommutativeRing, Cancels}
-use Rattle.ring.proofs.Laws.{equal-less, less-equal, mul-zero}
+use Rattle.ring.proofs.Laws.{equal-less, less-equal}
 use Rattle.ring.proofs.Ring.{E, var, zeroᴱ, oneᴱ, times, minus, formal, Same, den, ring}
 use Rattle.manual.specs.Matpower.{Complex, complex, real, conj, square, _⊕_, _⊗_}
-use Rattle.manual.specs.Balance.{sumTo, complexSum, weighed}
+use Rattle.manual.specs.Balance.{complexSum, weighed}
 use Rattle.manual.proofs.Sums.{sum-ext, sum-add}
 
 abbrev pub aF : Complex E

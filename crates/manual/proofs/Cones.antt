@@ -1,7 +1,7 @@
 -- s lies in the product of the cones exactly where every row's meaning holds: the rows in their order are the blocks one after another, so each cone
 -- gets the rows of its blocks, and of each row or cone it is known what it says. Assumes nothing.
 use Prim.Native.Nat.{ℕ, zero, suc, _+_, _*_, _<_}
-use mathlib.Core.Path.{_≡_, refl, sym, _∙_, ap, subst}
+use mathlib.Core.Path.{_≡_, refl, sym, _∙_, ap}
 use mathlib.Core.Logic.{_↔_, Iff·trans, Iff·and}
 use mathlib.Core.Bool.{true}
 use mathlib.Core.List.{List, [], _∷_, _++_, map}
@@ -14,7 +14,7 @@ use Rattle.lists.specs.Entries.{Every}
 use Rattle.lists.proofs.Sums.{each-length, sum-ones, sum-ext}
 use Rattle.ring.specs.Ops.{whole}
 use Rattle.records.specs.AcNetwork.{AcNetwork}
-use Rattle.numbering.specs.Numbering.{ncon, rowAt, nEq, nIneq, limits, coneLengths}
+use Rattle.numbering.specs.Numbering.{rowAt, nEq, nIneq, limits, coneLengths}
 use Rattle.numbering.proofs.EveryPoint.{every-row, row-placed}
 use Rattle.numbering.specs.declared.ColumnName.{ColumnName}
 use Rattle.numbering.specs.declared.ColumnName.the-variants.{Pg, Qg, W, Wr, Wi, Pf, Pt, Qf, Qt, CostOf}
@@ -25,9 +25,9 @@ use Rattle.manual.specs.Matpower.{scale}
 use Rattle.manual.specs.Slack.{slack}
 use Rattle.manual.specs.Flows.{lineOf, pointAt, held, manual}
 use Rattle.manual.specs.Balance.{mismatch}
-use Rattle.manual.specs.Clarabel.{Cone, zeroCone, nonnegative, secondOrder, rowsOf, InNorm, InKind, InProduct, cones}
+use Rattle.manual.specs.Clarabel.{Cone, zeroCone, nonnegative, secondOrder, rowsOf, InNorm, InProduct, cones}
 use Rattle.manual.specs.Documents.{Symmetric, Meant, slacks}
-use Rattle.manual.proofs.Products.{every-append, every-one, every-each, product-append, one-cone, rows-alike, each-rows, each-cones, limited-rows, limited-cones}
+use Rattle.manual.proofs.Products.{every-append, every-one, every-each, product-append, one-cone, rows-alike, each-rows, each-cones, limited-cones}
 use Rattle.manual.proofs.Rows.{pbal-zero, qbal-zero, ohm-zero, wub-law, wlb-law, pgub-law, pglb-law, qgub-law, qglb-law, angub-law, anglb-law, cost-law, jabr-law, from-law, to-law}
 
 -- ---- the lengths

@@ -1,6 +1,6 @@
 -- All that is proved from the two documents, put together. Assumes nothing.
 use Prim.Native.Nat.{ℕ}
-use mathlib.Core.Path.{_≡_, sym, _∙_, ap}
+use mathlib.Core.Path.{_≡_}
 use mathlib.Core.List.{List}
 use lib.IntN.{ℤ}
 use Rattle.lists.specs.UpTo.{sum}

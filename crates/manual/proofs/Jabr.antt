@@ -6,8 +6,8 @@ use mathlib.Core.List.{[], _∷_}
 use lib.Dec.{ltb}
 use Rattle.ring.specs.Ops.{Ops}
 use Rattle.ring.specs.Laws.{CommutativeRing}
-use Rattle.ring.proofs.Ring.{E, var, zeroᴱ, oneᴱ, twoᴱ, plus, minus, times, opposite, formal, ring}
-use Rattle.rows.specs.Rows.{Constant, minusOne, half, minusHalf, constant, Coefficient, Cell, cell, ends}
+use Rattle.ring.proofs.Ring.{var, zeroᴱ, oneᴱ, twoᴱ, plus, minus, times, opposite, formal, ring}
+use Rattle.rows.specs.Rows.{Constant, minusOne, half, minusHalf, constant, Coefficient, cell, ends}
 use Rattle.rows.specs.Scaled.{scaled}
 use Rattle.records.specs.AcNetwork.{AcNetwork}
 use Rattle.manual.specs.Slack.{slackOf, slack}

@@ -1,14 +1,14 @@
 -- The objective: x'Px has a square for each generator, q'x a term for each generator and one for each cost column, and all other columns have 0 in q.
 -- The columns in their order are the blocks one after another. Assumes nothing.
-use Prim.Native.Nat.{ℕ, _<_}
+use Prim.Native.Nat.{ℕ}
 use mathlib.Core.Path.{_≡_, refl, sym, _∙_, ap, ap₂}
 use mathlib.Core.Bool.{Bool, true, false, cond}
 use mathlib.Core.List.{List, [], _∷_, _++_}
-use Rattle.lists.specs.UpTo.{each, listed, when}
+use Rattle.lists.specs.UpTo.{each, when}
 use Rattle.ring.specs.Ops.{Ops}
 use Rattle.ring.specs.Laws.{CommutativeRing}
 use Rattle.ring.proofs.Laws.{zero-add, zero-mul, one-mul}
-use Rattle.ring.proofs.Ring.{E, var, zeroᴱ, oneᴱ, twoᴱ, plus, times, formal, ring}
+use Rattle.ring.proofs.Ring.{var, formal, ring}
 use Rattle.records.specs.AcNetwork.{AcNetwork}
 use Rattle.numbering.specs.Numbering.{nvar, columnAt}
 use Rattle.numbering.proofs.EveryPoint.{every-column, column-placed}

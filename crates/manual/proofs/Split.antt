@@ -7,7 +7,7 @@ use borrow.Author.Tests.{eqb-true}
 use lib.Dec.{eqb}
 use Rattle.ring.specs.Ops.{Ops}
 use Rattle.ring.specs.Laws.{CommutativeRing}
-use Rattle.ring.proofs.Ring.{var, zeroᴱ, formal}
+use Rattle.ring.proofs.Ring.{zeroᴱ, formal}
 use Rattle.records.specs.AcNetwork.{AcNetwork}
 use Rattle.manual.specs.Matpower.{Complex, Entry, ff, ft, tf, tt′, conj, sf, st}
 use Rattle.manual.specs.Balance.{complexSum, joined, weighed, joins, shunt, ybus, ibus, sbus}

@@ -4,12 +4,11 @@ use mathlib.Core.Path.{_≡_, refl, sym, _∙_, ap, ap₂}
 use mathlib.Core.Bool.{Bool, true, false, cond}
 use mathlib.Core.List.{List, [], _∷_, _++_}
 use native.Mathlib.Omega.{arith}
-use lib.Dec.{eqb}
 use Rattle.lists.specs.UpTo.{upTo, each, listed, when}
 use Rattle.ring.specs.Ops.{Ops}
 use Rattle.ring.specs.Laws.{CommutativeRing}
-use Rattle.ring.proofs.Laws.{zero-add, add-left-comm, mul-zero, zero-mul, one-mul}
-use Rattle.manual.specs.Balance.{sumTo, joined}
+use Rattle.ring.proofs.Laws.{zero-add, add-left-comm, mul-zero}
+use Rattle.manual.specs.Balance.{sumTo}
 
 module _ {A : Type 0} (o : Ops A) (R : CommutativeRing o) where
   infixl 60 _+_

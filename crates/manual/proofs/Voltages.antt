@@ -7,21 +7,20 @@ use mathlib.Core.List.{List, [], _∷_}
 use Rattle.ring.specs.Ops.{Ops}
 use Rattle.ring.specs.Laws.{CommutativeRing, Cancels}
 use Rattle.ring.proofs.Laws.{equal-less, mul-zero}
-use Rattle.ring.proofs.Ring.{E, var, zeroᴱ, oneᴱ, twoᴱ, plus, minus, times, formal, ring}
+use Rattle.ring.proofs.Ring.{E, var, twoᴱ, plus, minus, times, formal, ring}
 use Rattle.records.specs.AcNetwork.{AcNetwork}
 use Rattle.rows.specs.Rows.{OhmRow, pf, qf, pt, qt, ohmRow, flowColumn}
 use Rattle.numbering.specs.declared.ColumnName.{ColumnName}
-use Rattle.numbering.specs.declared.ColumnName.the-variants.{W, Wr, Wi}
 use Rattle.numbering.specs.declared.RowName.the-variants.{Pbal, Qbal, Jabr}
-use Rattle.manual.specs.Matpower.{Complex, complex, Line, Entry, ff, ft, tf, tt′, real, conj, square, scale, multiple, left, ybr, sf, st}
+use Rattle.manual.specs.Matpower.{Complex, Line, Entry, ff, ft, tf, tt′, real, conj, square, scale, multiple, ybr, sf, st}
 use Rattle.manual.specs.Slack.{slack}
 use Rattle.manual.specs.Flows.{lineOf, fromV}
 use Rattle.manual.specs.Balance.{weighed, joined, joins, shunt, sbus, sfAt, stAt, left-over, injected, mismatch}
 use Rattle.manual.specs.Clarabel.{squares}
-use Rattle.manual.specs.Documents.{Symmetric, AtVoltages, Balanced}
+use Rattle.manual.specs.Documents.{AtVoltages, Balanced}
 use Rattle.manual.proofs.Branches.{branch-law, shunt-law}
 use Rattle.manual.proofs.Ohm.{at-voltages}
-use Rattle.manual.proofs.Complexes.{_⊞_, _⊠_, aF, bF, cF, dF, parts, law, weighed-times, real-times, csum-ext, cancel, cancels-both, complex-cancel}
+use Rattle.manual.proofs.Complexes.{_⊞_, _⊠_, aF, bF, parts, weighed-times, real-times, csum-ext, cancel, cancels-both, complex-cancel}
 use Rattle.manual.proofs.Balance.{pbal-law, qbal-law}
 use Rattle.manual.proofs.Split.{split}
 use Rattle.manual.proofs.Jabr.{jabr-sum, jabr-real, jabr-imaginary, jabr-difference}

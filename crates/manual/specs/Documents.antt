@@ -10,7 +10,7 @@ use lib.IntN.{ℤ, pos, _+ℤ_, _*ℤ_}
 use lib.Signed.{_≤ℤ_}
 use Rattle.lists.specs.UpTo.{listed}
 use Rattle.ring.specs.Ops.{Ops, whole}
-use Rattle.ring.specs.Laws.{CommutativeRing, Cancels}
+use Rattle.ring.specs.Laws.{Cancels}
 use Rattle.refusals.specs.declared.Checked.the-variants.{Accepted}
 use Rattle.records.specs.AcNetwork.{BranchData, AcNetwork}
 use Rattle.records.specs.Network.{networkOf}
@@ -19,9 +19,9 @@ use Rattle.numbering.specs.Numbering.{ncon, rowAt, coneLengths}
 use Rattle.numbering.specs.declared.ColumnName.{ColumnName}
 use Rattle.numbering.specs.declared.ColumnName.the-variants.{Pg, Qg, W, Wr, Wi, Pf, Pt, Qf, Qt, CostOf}
 use Rattle.numbering.specs.declared.RowName.the-variants.{Pbal, Qbal, Jabr}
-use Rattle.rows.specs.Rows.{Coefficient, OhmRow, ohmRow, flowColumn}
+use Rattle.rows.specs.Rows.{Coefficient, OhmRow, ohmRow}
 use Rattle.rows.specs.Scaled.{fractionOf, scaled, Quotient}
-use Rattle.manual.specs.Matpower.{Complex, Line, Entry, _⊗_, conj, real, square, scale, multiple, left, right, ybr}
+use Rattle.manual.specs.Matpower.{Complex, Line, Entry, _⊗_, conj, real, square, scale, left, right, ybr}
 use Rattle.manual.specs.Slack.{slack}
 use Rattle.manual.specs.Flows.{lineOf, pointAt, held, manual, less, fromV, products}
 use Rattle.manual.specs.Balance.{mismatch, sbus, left-over}

@@ -1,6 +1,5 @@
 -- The objective. Clarabel's documentation, 'Problem Formulation': minimise ½x'Px + q'x. The MATPOWER User's Manual, on generator costs: a polynomial
 -- c_n p^n + .. + c_1 p + c_0 of a generator's power p; and a variable y for each piecewise linear cost ('constrained cost variables').
-use Prim.Native.Nat.{ℕ}
 use mathlib.Core.Bool.{cond}
 use mathlib.Core.List.{List, [], _∷_}
 use Rattle.ring.specs.Ops.{Ops}

@@ -1,7 +1,7 @@
 -- What follows from the laws of a commutative ring; and the whole numbers in it: k is so many ones. Assumes nothing.
 use Prim.Native.Nat.{ℕ, zero, suc}
 use mathlib.Core.Path.{_≡_, refl, sym, _∙_, ap, ap₂}
-use lib.IntN.{ℤ, pos, negsuc, sucℤ, predℤ, negℤ, _+ℤ_, _-ℤ_, _*ℤ_, +ℤ-idr, +ℤ-assoc, +ℤ-comm, +ℤ-invr, +ℤ-sucℤ, +ℤ-predℤ, zero-*ℤ, sucℤ-*ℤ, predℤ-*ℤ, *ℤ-comm, suc-pred}
+use lib.IntN.{ℤ, pos, negsuc, sucℤ, predℤ, negℤ, _+ℤ_, _*ℤ_, +ℤ-idr, +ℤ-assoc, +ℤ-comm, +ℤ-invr, +ℤ-sucℤ, +ℤ-predℤ, zero-*ℤ, sucℤ-*ℤ, predℤ-*ℤ, *ℤ-comm, suc-pred}
 use Rattle.ring.specs.Ops.{Ops, whole}
 use Rattle.ring.specs.Laws.{CommutativeRing}
 use Rattle.ring.proofs.Whole as Whole

@@ -8,7 +8,7 @@ use lib.Dec.{T, eqb, eqb→eq}
 use lib.IntN.{ℤ, pos, negsuc, _+ℤ_, _*ℤ_}
 use Rattle.ring.specs.Ops.{Ops}
 use Rattle.ring.specs.Laws.{CommutativeRing}
-use Rattle.ring.proofs.Laws.{zero-add, add-left-comm, one-mul, add-mul, zero-mul, mul-zero, neg-mul, mul-left-comm, mul-mul, equal-less, embed, embed-add, embed-neg, embed-mul, embed-one, embed-two}
+use Rattle.ring.proofs.Laws.{zero-add, add-left-comm, one-mul, add-mul, zero-mul, mul-zero, neg-mul, mul-left-comm, mul-mul, equal-less, embed, embed-add, embed-mul, embed-one, embed-two}
 
 -- ---- a polynomial as it is written
 pub data E : Type 0 where

@@ -8,7 +8,7 @@ use Rattle.records.specs.AcNetwork.{AcNetwork}
 use Rattle.numbering.specs.declared.ColumnName.{ColumnName}
 use Rattle.numbering.specs.declared.RowName.{RowName}
 use Rattle.ring.specs.Ops.{Ops, rounded}
-use Rattle.rows.specs.Rows.{Constant, one, minusOne, half, minusHalf, Coefficient, plain, over, constant, Reading, read, value64, Cell, cells, under}
+use Rattle.rows.specs.Rows.{Constant, one, minusOne, half, minusHalf, Coefficient, plain, over, constant, read, value64, Cell, cells, under}
 
 -- a fraction that is not worked out
 pub record Fraction (A : Type 0) : Type 0 where
