@@ -19,6 +19,7 @@ use Rattle.manual.proofs.Branches.{branch-law, shunt-law}
 use Rattle.manual.proofs.Ohm.{ohm-law, power-law}
 use Rattle.manual.proofs.Balance.{pbal-law, qbal-law}
 use Rattle.manual.proofs.Objective.{objective-law}
+use Rattle.manual.proofs.Split.{split}
 use Rattle.manual.proofs.Voltages.{balanced}
 use Rattle.manual.proofs.Cones.{cone-rows, from-product, to-product}
 
@@ -31,6 +32,7 @@ module _ {A : Type 0} (o : Ops A) (R : CommutativeRing o) (G : AcNetwork A) (x :
         powers = power-law o R;
         ohm = ohm-law o R G x;
         shunt = shunt-law o R;
+        split = split o R G;
         active = pbal-law o R G x;
         reactive = qbal-law o R G x;
         objective = objective-law o R G x;

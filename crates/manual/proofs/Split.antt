@@ -9,8 +9,8 @@ use Rattle.ring.specs.Ops.{Ops}
 use Rattle.ring.specs.Laws.{CommutativeRing}
 use Rattle.ring.proofs.Ring.{zeroᴱ, formal}
 use Rattle.records.specs.AcNetwork.{AcNetwork}
-use Rattle.manual.specs.Matpower.{Complex, Entry, ff, ft, tf, tt′, conj, sf, st}
-use Rattle.manual.specs.Balance.{complexSum, joined, weighed, joins, shunt, ybus, ibus, sbus}
+use Rattle.manual.specs.Matpower.{Complex, Entry, ff, ft, tf, tt′, conj}
+use Rattle.manual.specs.Balance.{complexSum, joined, weighed, joins, shunt, ybus, ibus, sbus, byBranches}
 use Rattle.manual.proofs.Complexes.{_⊞_, _⊠_, nil, aF, bF, law, sum-times, times-conj-sum, weighed-times, times-conj-weighed, csum-ext, csum-add, csum-times, times-conj-csum, csum-weighed, csum-swap, pick}
 
 module _ {A : Type 0} (o : Ops A) (R : CommutativeRing o) (G : AcNetwork A) (y : ℕ → Entry → Complex A) (v : ℕ → Complex A) where
@@ -77,9 +77,7 @@ module _ {A : Type 0} (o : Ops A) (R : CommutativeRing o) (G : AcNetwork A) (y :
         (λ e m. times-conj-weighed o R (joined o s i e) (v i) (current a b e)
         ∙ at-bus (eqb (s e) i) (s e) (conj o (current a b e)) (λ p. eqb-true (s e) i p))
 
-    pub split : i < G .n → sbus o G y v i
-        ≡ _⊞_ o (_⊞_ o (joins o (G .from) i (G .m) (λ e. sf o (y e) (v (G .from e)) (v (G .to e)))) (joins o (G .to) i (G .m) (λ e. st o (y e) (v (G .from e)) (v (G .to e)))))
-        (_⊠_ o (v i) (conj o (_⊠_ o (shunt o G i) (v i))))
+    pub split : i < G .n → sbus o G y v i ≡ byBranches o G y v i
     split h =
         ap (λ (t : Complex A). _⊠_ o (v i) (conj o t)) (currents h)
         ∙ times-conj-sum o R (v i) (_⊞_ o froms tos) (_⊠_ o (shunt o G i) (v i))

@@ -5,7 +5,7 @@ use mathlib.Core.Bool.{cond}
 use lib.Dec.{eqb}
 use Rattle.ring.specs.Ops.{Ops}
 use Rattle.records.specs.AcNetwork.{AcNetwork}
-use Rattle.manual.specs.Matpower.{Complex, complex, real, conj, _⊗_, _⊕_, minus, Entry, ff, ft, tf, tt′}
+use Rattle.manual.specs.Matpower.{Complex, complex, real, conj, _⊗_, _⊕_, minus, Entry, ff, ft, tf, tt′, sf, st}
 use Rattle.numbering.specs.declared.ColumnName.{ColumnName}
 use Rattle.numbering.specs.declared.ColumnName.the-variants.{Pg, Qg, W, Pf, Pt, Qf, Qt}
 
@@ -65,6 +65,12 @@ module _ {A : Type 0} (o : Ops A) where
 
       abbrev pub sbus : ℕ → Complex A
       sbus i = v i ⊠ conj o (ibus i)
+
+      -- the same by branches: C_f' S_f + C_t' S_t + [V] conj([Y_sh] V)
+      abbrev pub byBranches : ℕ → Complex A
+      byBranches i =
+          joins (G .from) i (G .m) (λ e. sf o (y e) (v (G .from e)) (v (G .to e))) ⊞ joins (G .to) i (G .m) (λ e. st o (y e) (v (G .from e)) (v (G .to e)))
+          ⊞ v i ⊠ conj o (shunt i ⊠ v i)
 
     -- ---- from the columns of the program
     module _ (x : ColumnName → A) where

@@ -24,7 +24,7 @@ use Rattle.rows.specs.Scaled.{fractionOf, scaled, Quotient}
 use Rattle.manual.specs.Matpower.{Complex, Line, Entry, _⊗_, conj, real, square, scale, left, right, ybr}
 use Rattle.manual.specs.Slack.{slack}
 use Rattle.manual.specs.Flows.{lineOf, pointAt, held, manual, less, fromV, products}
-use Rattle.manual.specs.Balance.{mismatch, sbus, left-over}
+use Rattle.manual.specs.Balance.{mismatch, sbus, byBranches, left-over}
 use Rattle.manual.specs.Objective.{squared, linear, polynomials, variables}
 use Rattle.manual.specs.Clarabel.{rowsOf, squares, InProduct, cones}
 
@@ -52,6 +52,9 @@ module _ {A : Type 0} (o : Ops A) where
     pub ohm : (e : ℕ) (r : OhmRow) → Symmetric (G .branch e) → slack o G x (ohmRow r e) ≡ less o (lineOf o (G .branch e)) (pointAt G x e) r
     -- a shunt's power
     pub shunt : (ysh v : Complex A) → _⊗_ o v (conj o (_⊗_ o ysh v)) ≡ _⊗_ o (conj o ysh) (real o (square o v))
+    -- S_bus from Ybus = C_f' Y_f + C_t' Y_t + [Y_sh] is what the branches and the shunt take, for any elements y of the branches' Ybr and voltages v
+    pub split : (y : ℕ → Entry → Complex A) (v : ℕ → Complex A) → ((e : ℕ) → e < G .m → (G .from e < G .n) × (G .to e < G .n))
+        → (i : ℕ) → i < G .n → sbus o G y v i ≡ byBranches o G y v i
     -- a balance row's s, times 2, is the mismatch, twice
     pub active : (i : ℕ) → slack o G x (Pbal i) ≡ two * mismatch o G x i .re
     pub reactive : (i : ℕ) → slack o G x (Qbal i) ≡ two * mismatch o G x i .im
