@@ -21,7 +21,7 @@ use Rattle.admittance.specs.Series.{Slope, series}
 use Rattle.rows.specs.Scaled.{scaled, row}
 use Rattle.derivatives.specs.Sums.{code, seriesRow}
 use Rattle.derivatives.specs.Raised.{more, moreSeries}
-use Rattle.derivatives.specs.Derived.{BySeries}
+use Rattle.derivatives.specs.Derived.{SeriesHolds}
 
 -- an Ohm row, and its series entries, times the values at its four columns
 module _ {A : Type 0} (o : Ops A) (v : OhmPlace → A) where
@@ -140,5 +140,5 @@ module _ {A : Type 0} (o : Ops A) (R : CommutativeRing o) where
     series-elsewhere (Jabr i q) h = refl
     series-elsewhere (Thermal i q) h = refl
 
-    pub by-series : BySeries o G gb e d
-    by-series = record { own = series-law; others = series-elsewhere }
+pub series-holds : SeriesHolds
+series-holds A o R G gb e d = record { own = series-law o R G gb e d; others = series-elsewhere o R G gb e d }

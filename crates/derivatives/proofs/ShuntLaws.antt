@@ -20,7 +20,7 @@ use Rattle.admittance.specs.Admittance.{shuntRow}
 use Rattle.rows.specs.Scaled.{scaled, sum, row}
 use Rattle.derivatives.specs.Sums.{shuntTimes}
 use Rattle.derivatives.specs.Raised.{changed, moreAt, moreShunt}
-use Rattle.derivatives.specs.Derived.{ByShunt}
+use Rattle.derivatives.specs.Derived.{ShuntHolds}
 
 -- the sum with a, and with d times v x more
 abbrev rowF : E → E
@@ -119,5 +119,5 @@ module _ {A : Type 0} (o : Ops A) (R : CommutativeRing o) where
     shunt-elsewhere Conductance r h = unchanged (moreAt o d i (G .gs)) (G .bs) r (λ j q. there (G .gs) j (λ e. h (ap Pbal e ∙ q))) (λ j q. refl)
     shunt-elsewhere Susceptance r h = unchanged (G .gs) (moreAt o d i (G .bs)) r (λ j q. refl) (λ j q. there (G .bs) j (λ e. h (ap Qbal e ∙ q)))
 
-    pub by-shunt : (gb : GB) → ByShunt o G gb i d
-    by-shunt gb = record { own = λ x. shunt-law x gb; others = shunt-elsewhere gb }
+pub shunt-holds : ShuntHolds
+shunt-holds A o R G gb i d = record { own = λ x. shunt-law o R G i d x gb; others = shunt-elsewhere o R G i d gb }

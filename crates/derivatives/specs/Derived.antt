@@ -3,6 +3,7 @@
 use Prim.Native.Nat.{ℕ}
 use mathlib.Core.Path.{_≡_}
 use Rattle.ring.specs.Ops.{Ops}
+use Rattle.ring.specs.Laws.{CommutativeRing}
 use Rattle.records.specs.AcNetwork.{AcNetwork}
 use Rattle.numbering.specs.declared.ColumnName.{ColumnName}
 use Rattle.numbering.specs.declared.RowName.{RowName}
@@ -27,3 +28,10 @@ module _ {A : Type 0} (o : Ops A) where
   pub record ByShunt (G : AcNetwork A) (gb : GB) (i : ℕ) (d : A) : Type 0 where
     pub own : (x : ColumnName → A) → row o x (moreShunt o d gb i G) (shuntRow gb i) ≡ row o x G (shuntRow gb i) + d * shuntTimes o x G gb i
     pub others : (r : RowName) → (shuntRow gb i ≡ r → ⊥) → cells o (moreShunt o d gb i G) r ≡ cells o G r
+
+-- both, for every commutative ring, network, parameter and d
+abbrev pub SeriesHolds : Type 1
+SeriesHolds = (A : Type 0) (o : Ops A) → CommutativeRing o → (G : AcNetwork A) (gb : GB) (e : ℕ) (d : A) → BySeries o G gb e d
+
+abbrev pub ShuntHolds : Type 1
+ShuntHolds = (A : Type 0) (o : Ops A) → CommutativeRing o → (G : AcNetwork A) (gb : GB) (i : ℕ) (d : A) → ByShunt o G gb i d

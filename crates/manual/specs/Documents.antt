@@ -10,7 +10,7 @@ use lib.IntN.{ℤ, pos, _+ℤ_, _*ℤ_}
 use lib.Signed.{_≤ℤ_}
 use Rattle.lists.specs.UpTo.{listed}
 use Rattle.ring.specs.Ops.{Ops, whole}
-use Rattle.ring.specs.Laws.{Cancels}
+use Rattle.ring.specs.Laws.{CommutativeRing, Cancels}
 use Rattle.refusals.specs.declared.Checked.the-variants.{Accepted}
 use Rattle.records.specs.AcNetwork.{BranchData, AcNetwork}
 use Rattle.records.specs.Network.{networkOf}
@@ -83,6 +83,15 @@ module _ {A : Type 0} (o : Ops A) where
     pub cone : (e : ℕ) → e < G .m
         → squares o (slack o G x (Jabr e 1) ∷ slack o G x (Jabr e 2) ∷ slack o G x (Jabr e 3) ∷ []) ≡ slack o G x (Jabr e 0) * slack o G x (Jabr e 0)
 
+-- both, for every commutative ring, network and values of the columns
+abbrev pub ManualHolds : Type 1
+ManualHolds = (A : Type 0) (o : Ops A) → CommutativeRing o → (G : AcNetwork A) (x : ColumnName → A) → FromManual o G x
+
+abbrev pub BalanceHolds : Type 1
+BalanceHolds =
+    (A : Type 0) (o : Ops A) → CommutativeRing o → (G : AcNetwork A) (x : ColumnName → A) (y : ℕ → Entry → Complex A) (v : ℕ → Complex A)
+    → AtVoltages o G x y v → Balanced o G x y v
+
 -- what the code computes for a coefficient is that numerator over that denominator, rounded
 abbrev pub Rounded : Type 0
 Rounded = (tm2 : Float) (c : Coefficient Float) → Quotient tm2 c
@@ -134,8 +143,8 @@ slacks G x = listed (ncon G) (λ p. slack whole G x (rowAt G p))
 
 -- of every accepted network: the cones have the lengths that are handed to Clarabel, and s lies in their product exactly where every row's
 -- meaning holds
-abbrev pub FromClarabel : (n m k s : ℕ) → List ℕ → Type 0
-FromClarabel n m k s bytes =
-    checkOf n m k s bytes ≡ Accepted → (G : AcNetwork ℤ) → PutFor (networkOf n m k s bytes) G
+abbrev pub ConesHold : Type 0
+ConesHold =
+    (n m k s : ℕ) (bytes : List ℕ) → checkOf n m k s bytes ≡ Accepted → (G : AcNetwork ℤ) → PutFor (networkOf n m k s bytes) G
     → (map rowsOf (cones G) ≡ coneLengths G)
     × (((e : ℕ) → e < G .m → Symmetric whole (G .branch e)) → (x : ColumnName → ℤ) → InProduct (cones G) (slacks G x) ↔ Meant G x)
