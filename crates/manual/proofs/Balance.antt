@@ -16,6 +16,7 @@ use Rattle.rows.specs.Scaled.{scaled, sum}
 use Rattle.manual.specs.Matpower.{Complex, _⊕_, _⊗_, conj, real, minus}
 use Rattle.manual.specs.Slack.{slack}
 use Rattle.manual.specs.Balance.{sumTo, joined, mismatch}
+use Rattle.manual.proofs.Formal.{complexF}
 use Rattle.numbering.specs.declared.ColumnName.{ColumnName}
 use Rattle.numbering.specs.declared.ColumnName.the-variants.{Pg, Qg, W, Pf, Pt, Qf, Qt}
 use Rattle.numbering.specs.declared.RowName.the-variants.{Pbal, Qbal}
@@ -42,9 +43,6 @@ module _ {A : Type 0} (o : Ops A) where
 
   abbrev double : A → A
   double a = two * a
-
-abbrev complexF : ℕ → ℕ → Complex E
-complexF i j = record { re = var i; im = var j }
 
 abbrev balanceF : Complex E
 balanceF = balance formal (complexF 0 1) (complexF 2 3) (complexF 4 5) (var 6) (complexF 7 8) (complexF 9 10)

@@ -3,8 +3,9 @@ use mathlib.Core.Path.{_≡_, sym, _∙_, ap}
 use mathlib.Core.List.{List, [], _∷_}
 use Rattle.ring.specs.Ops.{Ops}
 use Rattle.ring.specs.Laws.{CommutativeRing}
-use Rattle.ring.proofs.Ring.{E, var, formal, Same, den, ring}
+use Rattle.ring.proofs.Ring.{E, formal, Same, den, ring}
 use Rattle.manual.specs.Matpower.{Complex, complex, Line, Entry, ff, ft, tf, tt′, left, right, real, square, conj, _⊗_}
+use Rattle.manual.proofs.Formal.{complexF, lineF}
 
 -- cos² + sin², and a complex number times it
 module _ {A : Type 0} (o : Ops A) (l : Line A) where
@@ -18,9 +19,6 @@ module _ {A : Type 0} (o : Ops A) (l : Line A) where
   abbrev normed : Complex A → Complex A
   normed z = complex o (z .re * norm) (z .im * norm)
 
-abbrev lineF : Line E
-lineF = record { g = var 0; b = var 1; bc = var 2; τ = var 3; cosθ = var 4; sinθ = var 5 }
-
 -- v conj(ysh v) and conj(ysh) |v|²
 module _ {A : Type 0} (o : Ops A) where
   abbrev drawn : Complex A → Complex A → Complex A
@@ -30,10 +28,10 @@ module _ {A : Type 0} (o : Ops A) where
   weight ysh v = _⊗_ o (conj o ysh) (real o (square o v))
 
 abbrev yshF : Complex E
-yshF = record { re = var 0; im = var 1 }
+yshF = complexF 0 1
 
 abbrev vF : Complex E
-vF = record { re = var 2; im = var 3 }
+vF = complexF 2 3
 
 module _ {A : Type 0} (o : Ops A) (R : CommutativeRing o) where
   abbrev values : Line A → List A

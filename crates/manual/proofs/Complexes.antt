@@ -13,19 +13,17 @@ use Rattle.ring.proofs.Laws.{equal-less, less-equal}
 use Rattle.ring.proofs.Ring.{E, var, zeroᴱ, oneᴱ, times, minus, formal, Same, den, ring}
 use Rattle.manual.specs.Matpower.{Complex, complex, real, conj, square, _⊕_, _⊗_}
 use Rattle.manual.specs.Balance.{complexSum, weighed}
+use Rattle.manual.proofs.Formal.{complexF}
 use Rattle.manual.proofs.Sums.{sum-ext, sum-add}
 
 abbrev pub aF : Complex E
-aF = record { re = var 0; im = var 1 }
+aF = complexF 0 1
 
 abbrev pub bF : Complex E
-bF = record { re = var 2; im = var 3 }
+bF = complexF 2 3
 
 abbrev pub cF : Complex E
-cF = record { re = var 4; im = var 5 }
-
-abbrev pub dF : Complex E
-dF = record { re = var 6; im = var 7 }
+cF = complexF 4 5
 
 -- ---- both sides of each law
 module _ {A : Type 0} (o : Ops A) where

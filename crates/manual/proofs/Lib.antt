@@ -1,3 +1,4 @@
+pub mod Formal
 pub mod Branches
 pub mod Ohm
 pub mod Sums

@@ -13,6 +13,7 @@ use Rattle.manual.specs.Matpower.{Complex, Line, scale, conj, _⊗_, squ
 use Rattle.manual.specs.Slack.{slack}
 use Rattle.manual.specs.Flows.{Point, lineOf, held, manual, less, pointAt, fromV, products}
 use Rattle.manual.specs.Documents.{Symmetric}
+use Rattle.manual.proofs.Formal.{complexF, lineF}
 use Rattle.numbering.specs.declared.ColumnName.{ColumnName}
 use Rattle.numbering.specs.declared.ColumnName.the-variants.{W, Wr, Wi, Pf, Pt, Qf, Qt}
 
@@ -47,14 +48,8 @@ module _ {A : Type 0} (o : Ops A) where
 abbrev branchF : BranchData E
 branchF = alike formal (record { g = var 0; b = var 1; gfr = var 0; bfr = var 2; gto = var 0; bto = var 0; tap = var 3; cosine = var 4; sine = var 5 })
 
-abbrev complexF : ℕ → ℕ → Complex E
-complexF i j = record { re = var i; im = var j }
-
 abbrev pointF : Point E
 pointF = record { wf = var 6; wt = var 7; c = complexF 8 9; sf = complexF 10 11; st = complexF 12 13 }
-
-abbrev lineF : Line E
-lineF = record { g = var 0; b = var 1; bc = var 2; τ = var 3; cosθ = var 4; sinθ = var 5 }
 
 module _ {A : Type 0} (o : Ops A) (R : CommutativeRing o) where
   infixl 60 _-_

@@ -18,15 +18,13 @@ use Rattle.manual.specs.Flows.{lineOf, fromV}
 use Rattle.manual.specs.Balance.{weighed, joined, joins, shunt, sbus, sfAt, stAt, left-over, injected, mismatch}
 use Rattle.manual.specs.Clarabel.{squares}
 use Rattle.manual.specs.Documents.{AtVoltages, Balanced}
+use Rattle.manual.proofs.Formal.{complexF, lineF}
 use Rattle.manual.proofs.Branches.{branch-law, shunt-law}
 use Rattle.manual.proofs.Ohm.{at-voltages}
 use Rattle.manual.proofs.Complexes.{_⊞_, _⊠_, aF, bF, parts, weighed-times, real-times, csum-ext, cancel, cancels-both, complex-cancel}
 use Rattle.manual.proofs.Balance.{pbal-law, qbal-law}
 use Rattle.manual.proofs.Split.{split}
 use Rattle.manual.proofs.Jabr.{jabr-sum, jabr-real, jabr-imaginary, jabr-difference}
-
-abbrev lineF : Line E
-lineF = record { g = var 0; b = var 1; bc = var 2; τ = var 3; cosθ = var 4; sinθ = var 5 }
 
 -- ---- a power: z conj(a v_f + b v_t), and with a and b weighed
 module _ {A : Type 0} (o : Ops A) where
@@ -39,14 +37,11 @@ module _ {A : Type 0} (o : Ops A) where
   abbrev outside : A → Complex A → Complex A → Complex A → Complex A → Complex A → Complex A
   outside k z a b vf vt = weighed o k (power z a b vf vt)
 
-abbrev numberF : ℕ → ℕ → Complex E
-numberF i j = record { re = var i; im = var j }
-
 abbrev insideF : Complex E
-insideF = inside formal (var 0) (numberF 1 2) (numberF 3 4) (numberF 5 6) (numberF 7 8) (numberF 9 10)
+insideF = inside formal (var 0) (complexF 1 2) (complexF 3 4) (complexF 5 6) (complexF 7 8) (complexF 9 10)
 
 abbrev outsideF : Complex E
-outsideF = outside formal (var 0) (numberF 1 2) (numberF 3 4) (numberF 5 6) (numberF 7 8) (numberF 9 10)
+outsideF = outside formal (var 0) (complexF 1 2) (complexF 3 4) (complexF 5 6) (complexF 7 8) (complexF 9 10)
 
 module _ {A : Type 0} (o : Ops A) (R : CommutativeRing o) where
   infixl 60 _+_
