@@ -12,6 +12,7 @@ use Rattle.records.specs.Fields.{kindOf}
 use Rattle.records.specs.Check.{checkOf}
 use Rattle.records.specs.Network.{networkOf}
 use Rattle.numbering.specs.Blocks.{size, blockAt, before}
+use Rattle.numbering.specs.Numbering.{rowMany}
 use Rattle.numbering.specs.Layout.{layoutOf, layoutCause, layoutRows}
 use Rattle.numbering.specs.Lookups.{pickLookup, afterCheck, layoutAnswer}
 use Rattle.numbering.specs.declared.SocWrLayout.{SocWrLayout}
@@ -55,8 +56,8 @@ module _ (b : List ℕ) where
 -- "Each line: block, first row, rows; lastly the total": the first row of a block, and its rows
 abbrev pub firstRow : SocWrLayout → ℕ → Lookup
 firstRow l b =
-    afterCheck (layoutCause l) (pickLookup (leb b 17) (Lookup.Number (before (layoutRows l) b)) (Lookup.Refused (PastEnd b)))
+    afterCheck (layoutCause l) (pickLookup (leb b rowMany) (Lookup.Number (before (layoutRows l) b)) (Lookup.Refused (PastEnd b)))
 
 abbrev pub rowCount : SocWrLayout → ℕ → Lookup
 rowCount l b =
-    afterCheck (layoutCause l) (pickLookup (ltb b 17) (Lookup.Number (size (blockAt (layoutRows l) b))) (Lookup.Refused (PastEnd b)))
+    afterCheck (layoutCause l) (pickLookup (ltb b rowMany) (Lookup.Number (size (blockAt (layoutRows l) b))) (Lookup.Refused (PastEnd b)))

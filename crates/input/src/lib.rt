@@ -83,7 +83,7 @@ pub fn layout_value(a: LayoutAnswer) -> u64
     }
 }
 
-// The first row of a block; block 17 is past the last, where all rows end.
+// The first row of a block; the one past the last starts where all rows end.
 pub fn first_row(l: SocWrLayout, block: usize) -> Lookup
     ensures { λ r. ⌜ r ≡ firstRow l block ⌝ }
 {

@@ -9,7 +9,7 @@ use borrow.Author.Tests.{lt-ltb, le-ltb, ne-eqb}
 use Rattle.refusals.specs.declared.Refusal.the-variants.{PastEnd}
 use Rattle.records.specs.AcNetwork.{AcNetwork}
 use Rattle.numbering.specs.Blocks.{Block, alike, records, points, blockAt, numberOf, key}
-use Rattle.numbering.specs.Numbering.{columnBlocks, columnNumber, rowBlocks, rowNumber, costColumns, costRows, jabrRows, thermalRows}
+use Rattle.numbering.specs.Numbering.{columnBlocks, columnNumber, rowBlocks, rowNumber, columnMany, rowMany, costColumns, costRows, jabrRows, thermalRows}
 use Rattle.lookups.specs.Lookups.{asked, columnHas, rowHas, columnAsked, rowAsked}
 use Rattle.numbering.specs.declared.Key.{Key}
 use Rattle.numbering.specs.declared.Lookup.the-variants.{Number, Absent, Refused}
@@ -66,10 +66,10 @@ module _ (bs : List Block) (has : Bool) (j i q w : ℕ) (among : j < length bs) 
 
 -- ---- in a network's blocks; a record of most blocks has its points
 module _ {A : Type 0} (G : AcNetwork A) where
-  pub column-among : (j : ℕ) → j < 10 → j < length (columnBlocks G)
+  pub column-among : (j : ℕ) → j < columnMany → j < length (columnBlocks G)
   column-among j l = omega (arith, columns-many G)
 
-  pub row-among : (j : ℕ) → j < 17 → j < length (rowBlocks G)
+  pub row-among : (j : ℕ) → j < rowMany → j < length (rowBlocks G)
   row-among j l = omega (arith, rows-many G)
 
   pub column-has : (j i q : ℕ) → j < costColumns → columnHas G (key j i q) ≡ true

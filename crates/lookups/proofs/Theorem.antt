@@ -15,7 +15,7 @@ use Rattle.records.specs.Check.{checkOf}
 use Rattle.records.proofs.Laws.{accepted}
 use Rattle.records.proofs.Sound.{Sound, sound}
 use Rattle.numbering.specs.Blocks.{Block, records, blockAt, Valid, numberOf}
-use Rattle.numbering.specs.Numbering.{columnKey, columnBlocks, columnCounted, columnNumber, columnAt, nvar, costColumns, rowKey, rowBlocks, rowCounted, rowNumber, rowAt, ncon, costRows, jabrRows, thermalRows}
+use Rattle.numbering.specs.Numbering.{columnKey, columnBlocks, columnCounted, columnNumber, columnAt, nvar, columnMany, costColumns, rowKey, rowBlocks, rowCounted, rowNumber, rowAt, ncon, rowMany, costRows, jabrRows, thermalRows}
 use Rattle.numbering.specs.Layout.{InRange, layoutOf, layoutColumns, layoutRows}
 use Rattle.numbering.specs.Laid.{netOf, Laid}
 use Rattle.numbering.specs.Lookups.{afterCheck, inLayout, columnIn, rowIn}
@@ -76,14 +76,14 @@ unfolding inLayout afterCheck
 found-in l h bs x p = rw (range-accepted l h, lt-ltb _ _ p)
 
 -- a block that is counted is not the cost columns'; nor the segments', nor the thermal rows'
-column-plain : (j : ℕ) → j < 10 → not (eqb j costColumns) ≡ true → j < 9
+column-plain : (j : ℕ) → j < columnMany → not (eqb j costColumns) ≡ true → j < costColumns
 column-plain j l p = omega (arith, eqb-false j costColumns (not-true _ p))
 
 neither : (a c : Bool) → a || c ≡ false → (a ≡ false) × (c ≡ false)
 neither true c h = absurd (false≢true (sym h))
 neither false c h = (refl, h)
 
-row-plain : (j : ℕ) → j < 17 → not (eqb j costRows || eqb j thermalRows) ≡ true → (j ≡ jabrRows → ⊥) → j < 14
+row-plain : (j : ℕ) → j < rowMany → not (eqb j costRows || eqb j thermalRows) ≡ true → (j ≡ jabrRows → ⊥) → j < costRows
 row-plain j l p d =
     let n = neither (eqb j costRows) (eqb j thermalRows) (not-true _ p) in
     omega (arith, eqb-false j costRows (n .0), eqb-false j thermalRows (n .1), d)
@@ -95,22 +95,22 @@ module _ (l : SocWrLayout) (b : List ℕ) (h : Laid l b) where
   column-by-layout : (x : ColumnName) → columnCounted x ≡ true → Valid (columnBlocks N) (columnKey x) → columnIn l x ≡ Number (columnNumber N x)
   column-by-layout x p v =
       let k = columnKey x in
-      let inside : k .block < 10 = omega (arith, among (columnBlocks N) (k .block) (k .item) (v .item), columns-many N) in
+      let inside : k .block < columnMany = omega (arith, among (columnBlocks N) (k .block) (k .item) (v .item), columns-many N) in
       let there = laid-column-block l b h (k .block) (column-plain (k .block) inside p) in
       found-in l (h .range) (layoutColumns l) k
-      (rw (plain-at (layoutColumns l) 10 (plain-columns l) (k .block) inside) (rw there at (v .item)))
+      (rw (plain-at (layoutColumns l) columnMany (plain-columns l) (k .block) inside) (rw there at (v .item)))
       ∙ ap Number (laid-column l b h x p)
 
   row-by-layout : (x : RowName) → rowCounted x ≡ true → Valid (rowBlocks N) (rowKey x) → rowIn l x ≡ Number (rowNumber N x)
   row-by-layout x p v =
       let k = rowKey x in
-      let inside : k .block < 17 = omega (arith, among (rowBlocks N) (k .block) (k .item) (v .item), rows-many N) in
+      let inside : k .block < rowMany = omega (arith, among (rowBlocks N) (k .block) (k .item) (v .item), rows-many N) in
       found-in l (h .range) (layoutRows l) k
       (elim (ℕ-discrete (k .block) jabrRows) [
         | yes e ↦ rw (e, jabr-layout l) (rw (e, jabr-block N) at (v .item))
         | no e ↦
             let plain = row-plain (k .block) inside p e in
-            rw (plain-at (layoutRows l) 15 (plain-rows l) (k .block) (omega arith)) (rw (laid-row-block l b h (k .block) plain) at (v .item))
+            rw (plain-at (layoutRows l) jabrRows (plain-rows l) (k .block) (omega arith)) (rw (laid-row-block l b h (k .block) plain) at (v .item))
       ])
       ∙ ap Number (laid-row l b h x p)
 

@@ -41,8 +41,8 @@ both false false h = (h, h)
 
 ends-same : (κ : ColumnName) (f t : ℕ) → same (W f) κ ≡ true → same (W t) κ ≡ true → f ≡ t
 ends-same κ f t p q =
-    eqb-true f (columnKey κ .item) (both (eqb 2 (columnKey κ .block)) (eqb f (columnKey κ .item)) p .1)
-    ∙ sym (eqb-true t (columnKey κ .item) (both (eqb 2 (columnKey κ .block)) (eqb t (columnKey κ .item)) q .1))
+    eqb-true f (columnKey κ .item) (both (eqb (columnKey (W f) .block) (columnKey κ .block)) (eqb f (columnKey κ .item)) p .1)
+    ∙ sym (eqb-true t (columnKey κ .item) (both (eqb (columnKey (W t) .block) (columnKey κ .block)) (eqb t (columnKey κ .item)) q .1))
 
 module _ (κ : ColumnName) (r : ℕ) where
   cut-append : (xs ys : List Term) → cut κ r (xs ++ ys) ≡ cut κ r xs ++ cut κ r ys

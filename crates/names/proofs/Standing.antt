@@ -11,7 +11,7 @@ use Rattle.lists.specs.UpTo.{bit, count}
 use Rattle.lists.proofs.Sums.{bit-le}
 use Rattle.records.specs.AcNetwork.{AcNetwork}
 use Rattle.numbering.specs.Blocks.{key, before, numberOf}
-use Rattle.numbering.specs.Numbering.{SameKey, columnKey, columnCounted, ColumnStands, nvar, costColumns, rowKey, rowCounted, RowStands, ncon, costRows, jabrRows, thermalRows}
+use Rattle.numbering.specs.Numbering.{SameKey, columnKey, columnCounted, ColumnStands, nvar, columnMany, costColumns, rowKey, rowCounted, RowStands, ncon, costRows, jabrRows, thermalRows}
 use Rattle.numbering.specs.Layout.{layoutColumns, layoutRows, sizesOf, startIn, InBlock}
 use Rattle.numbering.specs.Laid.{netOf, Laid}
 use Rattle.numbering.specs.Tally.{pointsOf, tallyOf, Located}
@@ -47,11 +47,11 @@ module _ (l : SocWrLayout) (b : List ℕ) (h : Laid l b) where
   -- ---- a point of the columns in its block
   module _ (p : ℕ) (q : Place) (r : InBlock (sizesOf (layoutColumns l)) p q) where
     -- the layout's number of this place is p
-    column-there : q .item < 10 → numberOf (layoutColumns l) (key (q .item) (q .at) 0) ≡ p
+    column-there : q .item < columnMany → numberOf (layoutColumns l) (key (q .item) (q .at) 0) ≡ p
     column-there k =
-        omega (arith, plain-number (layoutColumns l) 10 (plain-columns l) (q .item) (q .at) k, start-is (layoutColumns l) (q .item), r .number)
+        omega (arith, plain-number (layoutColumns l) columnMany (plain-columns l) (q .item) (q .at) k, start-is (layoutColumns l) (q .item), r .number)
 
-    pub plain-column-stands : q .item < 9 → (x : ColumnName) → SameKey (columnKey x) (key (q .item) (q .at) 0) → ColumnStands G p x
+    pub plain-column-stands : q .item < costColumns → (x : ColumnName) → SameKey (columnKey x) (key (q .item) (q .at) 0) → ColumnStands G p x
     plain-column-stands k x s =
         let e = same-key s in
         let here = laid-column-block l b h (q .item) k in
@@ -78,9 +78,9 @@ module _ (l : SocWrLayout) (b : List ℕ) (h : Laid l b) where
 
   -- ---- a point of the rows in its block
   module _ (p : ℕ) (q : Place) (r : InBlock (sizesOf (layoutRows l)) p q) where
-    row-there : q .item < 15 → numberOf (layoutRows l) (key (q .item) (q .at) 0) ≡ p
+    row-there : q .item < jabrRows → numberOf (layoutRows l) (key (q .item) (q .at) 0) ≡ p
     row-there k =
-        omega (arith, plain-number (layoutRows l) 15 (plain-rows l) (q .item) (q .at) k, start-is (layoutRows l) (q .item), r .number)
+        omega (arith, plain-number (layoutRows l) jabrRows (plain-rows l) (q .item) (q .at) k, start-is (layoutRows l) (q .item), r .number)
 
     inside : (j : ℕ) → q .item ≡ j → q .at < getD (sizesOf (layoutRows l)) j 0
     inside j e = rw e at (r .inside)
@@ -91,7 +91,7 @@ module _ (l : SocWrLayout) (b : List ℕ) (h : Laid l b) where
         let n : startIn (sizesOf (layoutRows l)) j + q .at ≡ p = rw e at (r .number) in
         omega (arith, start-is (layoutRows l) j)
 
-    pub plain-row-stands : q .item < 14 → (x : RowName) → SameKey (rowKey x) (key (q .item) (q .at) 0) → RowStands G p x
+    pub plain-row-stands : q .item < costRows → (x : RowName) → SameKey (rowKey x) (key (q .item) (q .at) 0) → RowStands G p x
     plain-row-stands k x s =
         let e = same-key s in
         let here = laid-row-block l b h (q .item) k in

@@ -5,7 +5,8 @@ use numbering::RowName;
 use numbering::inner::blocks;
 ghost use Prim.Native.Nat.{_<_};
 ghost use Rattle.numbering.specs.Blocks.{key};
-ghost use Rattle.numbering.specs.Numbering.{columnKey, rowKey, SameKey};
+ghost use Rattle.numbering.specs.Numbering.{columnKey, rowKey, costColumns, costRows, SameKey};
+ghost use Rattle.numbering.specs.declared.RowName.the-variants.{Wub};
 
 fn keyed(block: usize, item: usize, place: usize) -> Key
     ensures { λ r. ⌜ SameKey r (key block item place) ⌝ }
@@ -56,7 +57,7 @@ pub fn row_key(name: RowName) -> Key
 
 // A row of the zero cone.
 fn equality_row(block: usize, item: usize) -> RowName
-    requires { ⌜ block < 6 ⌝ }
+    requires { ⌜ block < rowKey (Wub 0) .block ⌝ }
     ensures { λ r. ⌜ SameKey (rowKey r) (key block item 0) ⌝ }
 {
     if block <= blocks::PBAL {
@@ -79,7 +80,7 @@ fn equality_row(block: usize, item: usize) -> RowName
 
 // The column, and the row, of a record of a block whose records have one each.
 pub(crate) fn plain_column(block: usize, item: usize) -> ColumnName
-    requires { ⌜ block < 9 ⌝ }
+    requires { ⌜ block < costColumns ⌝ }
     ensures { λ r. ⌜ SameKey (columnKey r) (key block item 0) ⌝ }
 {
     if block <= blocks::PG {
@@ -110,7 +111,7 @@ pub(crate) fn plain_column(block: usize, item: usize) -> ColumnName
 }
 
 pub(crate) fn plain_row(block: usize, item: usize) -> RowName
-    requires { ⌜ block < 14 ⌝ }
+    requires { ⌜ block < costRows ⌝ }
     ensures { λ r. ⌜ SameKey (rowKey r) (key block item 0) ⌝ }
 {
     if block < blocks::WUB {

@@ -17,7 +17,7 @@ use Rattle.refusals.specs.declared.Checked.the-variants.{Accepted, Refused}
 use Rattle.refusals.specs.declared.Refusal.the-variants.{PastEnd}
 use Rattle.refusals.proofs.Laws.{passed}
 use Rattle.numbering.specs.Blocks.{Block, alike, size, records, start, blockAt, before, numberOf, key}
-use Rattle.numbering.specs.Numbering.{columnTable, rowTable, jabrRows, thermalRows}
+use Rattle.numbering.specs.Numbering.{columnTable, rowTable, columnMany, rowMany, jabrRows, thermalRows}
 use Rattle.numbering.specs.Layout.{layoutCause, layoutColumns, layoutRows, layoutRow, sizesOf, startIn, InRange}
 use Rattle.numbering.specs.Lookups.{afterCheck, inLayout, rowIn, layoutAnswer}
 use Rattle.numbering.specs.declared.Lookup.{Lookup}
@@ -129,11 +129,11 @@ module _ (l : SocWrLayout) (ok : layoutCause l ≡ Accepted) {e : ℕ} where
 
 -- ---- the layout's blocks
 module _ (l : SocWrLayout) where
-  pub plain-columns : Plain (layoutColumns l) 10
+  pub plain-columns : Plain (layoutColumns l) columnMany
   unfolding layoutColumns columnTable
   plain-columns = (refl, (refl, (refl, (refl, (refl, (refl, (refl, (refl, (refl, (refl, tt))))))))))
 
-  pub plain-rows : Plain (layoutRows l) 15
+  pub plain-rows : Plain (layoutRows l) jabrRows
   unfolding layoutRows rowTable
   plain-rows = (refl, (refl, (refl, (refl, (refl, (refl, (refl, (refl, (refl, (refl, (refl, (refl, (refl, (refl, (refl, tt)))))))))))))))
 
@@ -164,10 +164,10 @@ pub row-most : (l : SocWrLayout) → InRange l → (j : ℕ) → getD (sizesOf (
 unfolding sizesOf layoutRows rowTable size start
 row-most l h = most (sizesOf (layoutRows l)) (omega arith)
 
-pub column-blocks : (l : SocWrLayout) → length (sizesOf (layoutColumns l)) ≡ 10
+pub column-blocks : (l : SocWrLayout) → length (sizesOf (layoutColumns l)) ≡ columnMany
 unfolding sizesOf layoutColumns columnTable
 column-blocks l = refl
 
-pub row-blocks : (l : SocWrLayout) → length (sizesOf (layoutRows l)) ≡ 17
+pub row-blocks : (l : SocWrLayout) → length (sizesOf (layoutRows l)) ≡ rowMany
 unfolding sizesOf layoutRows rowTable
 row-blocks l = refl

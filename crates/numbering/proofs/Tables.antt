@@ -7,7 +7,7 @@ use lib.ListN.{length, getD}
 use Rattle.lists.specs.UpTo.{bit}
 use Rattle.records.specs.AcNetwork.{AcNetwork}
 use Rattle.numbering.specs.Blocks.{alike, unlike, start, size, blockAt, before, total, key, Valid, numberOf}
-use Rattle.numbering.specs.Numbering.{columnTable, rowTable, columnBlocks, rowBlocks, costColumns, costRows, jabrRows, thermalRows, columnKey, rowKey, columnNumber, rowNumber, nvar, ncon}
+use Rattle.numbering.specs.Numbering.{columnTable, rowTable, columnBlocks, rowBlocks, columnMany, rowMany, costColumns, costRows, jabrRows, thermalRows, columnKey, rowKey, columnNumber, rowNumber, nvar, ncon}
 use Rattle.numbering.specs.Layout.{layoutColumns, layoutRows, sizesOf, startIn, nvarOf, nconOf}
 use Rattle.numbering.specs.Laid.{netOf, Laid}
 use Rattle.numbering.specs.declared.SocWrLayout.{SocWrLayout}
@@ -36,19 +36,19 @@ module _ {A : Type 0} (G : AcNetwork A) where
   row-inside x v = key-below (rowBlocks G) (rowKey x) v
 
   -- ---- how many blocks there are, and which have one point for each record
-  pub columns-many : length (columnBlocks G) ≡ 10
+  pub columns-many : length (columnBlocks G) ≡ columnMany
   unfolding columnBlocks columnTable
   columns-many = refl
 
-  pub rows-many : length (rowBlocks G) ≡ 17
+  pub rows-many : length (rowBlocks G) ≡ rowMany
   unfolding rowBlocks rowTable
   rows-many = refl
 
-  pub columns-plain : Plain (columnBlocks G) 9
+  pub columns-plain : Plain (columnBlocks G) costColumns
   unfolding columnBlocks columnTable
   columns-plain = (refl, (refl, (refl, (refl, (refl, (refl, (refl, (refl, (refl, tt)))))))))
 
-  pub rows-plain : Plain (rowBlocks G) 14
+  pub rows-plain : Plain (rowBlocks G) costRows
   unfolding rowBlocks rowTable
   rows-plain = (refl, (refl, (refl, (refl, (refl, (refl, (refl, (refl, (refl, (refl, (refl, (refl, (refl, (refl, tt))))))))))))))
 
@@ -89,11 +89,11 @@ module _ (l : SocWrLayout) where
 
   pub columns-end : startIn (sizesOf (layoutColumns l)) (length (sizesOf (layoutColumns l))) ≡ nvarOf l
   unfolding nvarOf total layoutColumns columnTable
-  columns-end = rw (column-blocks l) (start-is (layoutColumns l) 10)
+  columns-end = rw (column-blocks l) (start-is (layoutColumns l) columnMany)
 
   pub rows-end : startIn (sizesOf (layoutRows l)) (length (sizesOf (layoutRows l))) ≡ nconOf l
   unfolding nconOf total layoutRows rowTable
-  rows-end = rw (row-blocks l) (start-is (layoutRows l) 17)
+  rows-end = rw (row-blocks l) (start-is (layoutRows l) rowMany)
 
   pub jabr-layout : blockAt (layoutRows l) jabrRows ≡ alike (l .m) 4
   unfolding layoutRows rowTable
@@ -109,13 +109,13 @@ module _ (l : SocWrLayout) (b : List ℕ) (h : Laid l b) where
   unfolding sizesOf rowBlocks layoutRows rowTable size start
   row-lengths = rw (h .accepted .counts-add, limits-are l b h)
 
-  pub laid-column-block : (j : ℕ) → j < 9 → blockAt (columnBlocks (netOf l b)) j ≡ alike (getD (sizesOf (layoutColumns l)) j 0) 1
+  pub laid-column-block : (j : ℕ) → j < costColumns → blockAt (columnBlocks (netOf l b)) j ≡ alike (getD (sizesOf (layoutColumns l)) j 0) 1
   laid-column-block j k =
-      plain-at (columnBlocks (netOf l b)) 9 (columns-plain (netOf l b)) j k ∙ ap (λ (ws : List ℕ). alike (getD ws j 0) 1) column-lengths
+      plain-at (columnBlocks (netOf l b)) costColumns (columns-plain (netOf l b)) j k ∙ ap (λ (ws : List ℕ). alike (getD ws j 0) 1) column-lengths
 
-  pub laid-row-block : (j : ℕ) → j < 14 → blockAt (rowBlocks (netOf l b)) j ≡ alike (getD (sizesOf (layoutRows l)) j 0) 1
+  pub laid-row-block : (j : ℕ) → j < costRows → blockAt (rowBlocks (netOf l b)) j ≡ alike (getD (sizesOf (layoutRows l)) j 0) 1
   laid-row-block j k =
-      plain-at (rowBlocks (netOf l b)) 14 (rows-plain (netOf l b)) j k ∙ ap (λ (ws : List ℕ). alike (getD ws j 0) 1) row-lengths
+      plain-at (rowBlocks (netOf l b)) costRows (rows-plain (netOf l b)) j k ∙ ap (λ (ws : List ℕ). alike (getD ws j 0) 1) row-lengths
 
   -- and the numbers in them too
   column-starts : (j : ℕ) → before (layoutColumns l) j ≡ before (columnBlocks (netOf l b)) j
@@ -126,20 +126,20 @@ module _ (l : SocWrLayout) (b : List ℕ) (h : Laid l b) where
   row-starts j =
       sym (start-is (layoutRows l) j) ∙ ap (λ (ws : List ℕ). startIn ws j) (sym row-lengths) ∙ start-is (rowBlocks (netOf l b)) j
 
-  pub laid-column-key : (j i : ℕ) → j < 9 → numberOf (layoutColumns l) (key j i 0) ≡ numberOf (columnBlocks (netOf l b)) (key j i 0)
+  pub laid-column-key : (j i : ℕ) → j < costColumns → numberOf (layoutColumns l) (key j i 0) ≡ numberOf (columnBlocks (netOf l b)) (key j i 0)
   laid-column-key j i k =
       omega (
         arith,
         column-starts j,
-        plain-number (layoutColumns l) 10 (plain-columns l) j i (omega arith),
-        plain-number (columnBlocks (netOf l b)) 9 (columns-plain (netOf l b)) j i k,
+        plain-number (layoutColumns l) columnMany (plain-columns l) j i (omega arith),
+        plain-number (columnBlocks (netOf l b)) costColumns (columns-plain (netOf l b)) j i k,
       )
 
-  pub laid-row-key : (j i : ℕ) → j < 14 → numberOf (layoutRows l) (key j i 0) ≡ numberOf (rowBlocks (netOf l b)) (key j i 0)
+  pub laid-row-key : (j i : ℕ) → j < costRows → numberOf (layoutRows l) (key j i 0) ≡ numberOf (rowBlocks (netOf l b)) (key j i 0)
   laid-row-key j i k =
       omega (
         arith,
         row-starts j,
-        plain-number (layoutRows l) 15 (plain-rows l) j i (omega arith),
-        plain-number (rowBlocks (netOf l b)) 14 (rows-plain (netOf l b)) j i k,
+        plain-number (layoutRows l) jabrRows (plain-rows l) j i (omega arith),
+        plain-number (rowBlocks (netOf l b)) costRows (rows-plain (netOf l b)) j i k,
       )

@@ -30,6 +30,13 @@ jabrRows = 15
 abbrev pub thermalRows : ℕ
 thermalRows = 16
 
+-- how many blocks there are
+abbrev pub columnMany : ℕ
+columnMany = 10
+
+abbrev pub rowMany : ℕ
+rowMany = 17
+
 abbrev pub columnKey : ColumnName → Key
 columnKey (Pg g) = key 0 g 0
 columnKey (Qg g) = key 1 g 0

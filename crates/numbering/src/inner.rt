@@ -8,6 +8,7 @@ pub mod tally;
 ghost use mathlib.Core.Path.{_≡_};
 ghost use Prim.Native.Nat.{_+_, _*_, _≤_, _<_};
 ghost use Rattle.numbering.specs.Blocks.{key, size, blockAt, before, numberOf};
+ghost use Rattle.numbering.specs.Numbering.{columnMany, rowMany, jabrRows};
 ghost use Rattle.numbering.specs.Layout.{InRange, layoutColumns, layoutRows, layoutColumn, layoutRow, nEqOf, nIneqOf, nvarOf, nconOf};
 ghost use Rattle.numbering.specs.declared.ColumnName.the-variants.{Pg, Qg, W, Wr, Wi, Pf, Pt, Qf, Qt, CostOf};
 ghost use Rattle.numbering.specs.declared.RowName.the-variants.{Pbal, Qbal, OhmPf, OhmQf, OhmPt, OhmQt, Wub, Wlb, Pgub, Pglb, Qgub, Qglb, Angub, Anglb, Segment, Jabr, Thermal};
@@ -16,7 +17,7 @@ impl SocWrLayout {
     // A block's first column, and its first row: the lengths of the blocks before it.
     fn column_start(self, block: usize) -> u32
         requires { ⌜ InRange self ⌝ }
-        requires { ⌜ block ≤ 10 ⌝ }
+        requires { ⌜ block ≤ columnMany ⌝ }
         ensures { λ r. ⌜ r ≡ before (layoutColumns self) block ⌝ }
         ensures { λ r. ⌜ r ≤ 1114112 ⌝ }
     {
@@ -26,7 +27,7 @@ impl SocWrLayout {
 
     pub fn row_start(self, block: usize) -> u32
         requires { ⌜ InRange self ⌝ }
-        requires { ⌜ block ≤ 17 ⌝ }
+        requires { ⌜ block ≤ rowMany ⌝ }
         ensures { λ r. ⌜ r ≡ before (layoutRows self) block ⌝ }
         ensures { λ r. ⌜ r ≤ 1114112 ⌝ }
     {
@@ -37,7 +38,7 @@ impl SocWrLayout {
     // How many rows a block has.
     pub fn row_size(self, block: usize) -> u32
         requires { ⌜ InRange self ⌝ }
-        requires { ⌜ block < 17 ⌝ }
+        requires { ⌜ block < rowMany ⌝ }
         ensures { λ r. ⌜ r ≡ size (blockAt (layoutRows self) block) ⌝ }
     {
         let sizes = blocks::row_sizes(self);
@@ -47,7 +48,7 @@ impl SocWrLayout {
     // Column i of a block; and row i of a block whose records have one row each.
     pub fn column_at(self, block: usize, i: usize) -> u32
         requires { ⌜ InRange self ⌝ }
-        requires { ⌜ (block < 10) × (i ≤ 65536) ⌝ }
+        requires { ⌜ (block < columnMany) × (i ≤ 65536) ⌝ }
         ensures { λ r. ⌜ r ≡ numberOf (layoutColumns self) (key block i 0) ⌝ }
     {
         self.column_start(block) + i as u32
@@ -55,7 +56,7 @@ impl SocWrLayout {
 
     pub fn row_at(self, block: usize, i: usize) -> u32
         requires { ⌜ InRange self ⌝ }
-        requires { ⌜ (block < 15) × (i ≤ 65536) ⌝ }
+        requires { ⌜ (block < jabrRows) × (i ≤ 65536) ⌝ }
         ensures { λ r. ⌜ r ≡ numberOf (layoutRows self) (key block i 0) ⌝ }
     {
         self.row_start(block) + i as u32

@@ -12,6 +12,7 @@ use refusals::refuse_unless;
 ghost use mathlib.Core.Path.{_≡_};
 ghost use Prim.Native.Nat.{_<_};
 ghost use Rattle.numbering.specs.Blocks.{key};
+ghost use Rattle.numbering.specs.Numbering.{costColumns, costRows};
 ghost use Rattle.numbering.specs.Layout.{countedOf, layoutCause, layoutColumns, layoutRows, layoutRow, nEqOf, nIneqOf, nvarOf, nconOf};
 ghost use Rattle.numbering.specs.Lookups.{afterCheck, inLayout, columnIn, rowIn, sizeIn, layoutAnswer, newLayout, LaidOut};
 ghost use Rattle.numbering.specs.declared.Lookup.the-variants.{Absent};
@@ -101,7 +102,7 @@ impl SocWrLayout {
 
     // A column of a block whose records have one column each.
     fn plain_column(self, block: usize, i: usize) -> Lookup
-        requires { ⌜ block < 9 ⌝ }
+        requires { ⌜ block < costColumns ⌝ }
         ensures { λ r. ⌜ r ≡ inLayout self (layoutColumns self) (key block i 0) ⌝ }
     {
         let cause = self.cause();
@@ -117,7 +118,7 @@ impl SocWrLayout {
 
     // A row of a block whose records have one row each.
     fn plain_row(self, block: usize, i: usize) -> Lookup
-        requires { ⌜ block < 14 ⌝ }
+        requires { ⌜ block < costRows ⌝ }
         ensures { λ r. ⌜ r ≡ inLayout self (layoutRows self) (key block i 0) ⌝ }
     {
         let cause = self.cause();

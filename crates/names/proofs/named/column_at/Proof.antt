@@ -3,6 +3,7 @@ use borrow.Author.Needs.{needs}
 use mathlib.Core.Path.{_≡_, ap, _∙_}
 use native.Mathlib.Omega.{arith}
 use lib.ListN.{length}
+use Rattle.numbering.specs.Numbering.{costColumns}
 use Rattle.numbering.proofs.Entered.{column-blocks}
 use Rattle.names.proofs.Standing.{column-total, plain-column-stands, cost-inside, cost-stands}
 use Rattle.names.proofs.named.column_at.Statement.{statement}
@@ -26,7 +27,7 @@ locate-requires c κs =
     let s = f .before .before .before .before in
     let lengths = f .before .before .column-sizes .ensures in
     let many = ap length lengths ∙ column-blocks (s .args .l) in
-    let last : f .block-of .result .item ≡ 9 = omega (arith, f .block-of .ensures .1) in
+    let last : f .block-of .result .item ≡ costColumns = omega (arith, f .block-of .ensures .1) in
     (omega (arith, s .pre .0 .accepted .size), cost-inside (s .args .l) (s .args .bytes .now) (s .pre .0) (s .args .p) (f .block-of .result) (rw lengths at (f .block-of .ensures .0)) last)
 
 returns-2 : tie.Need-returns-2
@@ -35,7 +36,7 @@ returns-2 c =
     let s = f .before .before .before .before in
     let lengths = f .before .before .column-sizes .ensures in
     let many = ap length lengths ∙ column-blocks (s .args .l) in
-    let last : f .block-of .result .item ≡ 9 = omega (arith, f .block-of .ensures .1) in
+    let last : f .block-of .result .item ≡ costColumns = omega (arith, f .block-of .ensures .1) in
     cost-stands (s .args .l) (s .args .bytes .now) (s .pre .0) (s .args .p) (f .block-of .result) (rw lengths at (f .block-of .ensures .0)) last
     (c .locate .result) (c .locate .ensures)
 

@@ -3,6 +3,7 @@ use borrow.Author.Needs.{needs}
 use mathlib.Core.Path.{_≡_, ap, _∙_}
 use native.Mathlib.Omega.{arith}
 use lib.ListN.{length}
+use Rattle.numbering.specs.Numbering.{thermalRows}
 use Rattle.numbering.proofs.Entered.{row-blocks}
 use Rattle.names.proofs.Standing.{row-total, plain-row-stands, segment-in, segment-stands, jabr-stands, thermal-in, thermal-stands}
 use Rattle.names.proofs.named.row_at.Statement.{statement}
@@ -50,7 +51,7 @@ locate-requires-2 c κs =
     let s = f .before .before .before .before in
     let lengths = f .before .before .row-sizes .ensures in
     let many = ap length lengths ∙ row-blocks (s .args .l) in
-    let last : f .block-of .result .item ≡ 16 = omega (arith, f .block-of .ensures .1) in
+    let last : f .block-of .result .item ≡ thermalRows = omega (arith, f .block-of .ensures .1) in
     (omega (arith, s .pre .0 .accepted .size), thermal-in (s .args .l) (s .args .bytes .now) (s .pre .0) (s .args .p) (f .block-of .result) (rw lengths at (f .block-of .ensures .0)) last)
 
 returns-4 : tie.Need-returns-4
@@ -59,7 +60,7 @@ returns-4 c =
     let s = f .before .before .before .before in
     let lengths = f .before .before .row-sizes .ensures in
     let many = ap length lengths ∙ row-blocks (s .args .l) in
-    let last : f .block-of .result .item ≡ 16 = omega (arith, f .block-of .ensures .1) in
+    let last : f .block-of .result .item ≡ thermalRows = omega (arith, f .block-of .ensures .1) in
     thermal-stands (s .args .l) (s .args .bytes .now) (s .pre .0) (s .args .p) (f .block-of .result) (rw lengths at (f .block-of .ensures .0)) last
     (c .locate2 .result) (c .locate2 .ensures)
 

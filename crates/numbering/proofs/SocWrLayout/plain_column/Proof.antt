@@ -2,6 +2,7 @@
 use borrow.Author.Needs.{needs}
 use mathlib.Core.Path.{sym, _∙_}
 use native.Mathlib.Omega.{arith}
+use Rattle.numbering.specs.Numbering.{columnMany}
 use Rattle.numbering.specs.Layout.{layoutColumns}
 use Rattle.numbering.specs.Lookups.{inLayout}
 use Rattle.numbering.proofs.Layouts.{in-range}
@@ -20,7 +21,7 @@ returns-2 c =
     let tested = c .before .before .before in
     let a = tested .before .before .args in
     let ok = gone-on (tested .before .cause .ensures) (sym (tested .is-refused .ensures) ∙ c .before .before .if1 .left) in
-    plain-past (a .self) ok (layoutColumns (a .self)) 10 (plain-columns (a .self)) (a .block) (a .i) (omega arith)
+    plain-past (a .self) ok (layoutColumns (a .self)) columnMany (plain-columns (a .self)) (a .block) (a .i) (omega arith)
     (rw (c .before .column-sizes .ensures) at (c .if2 .taken))
 
 column-at-requires : tie.Need-column-at-requires
@@ -36,7 +37,7 @@ returns-3 c =
     let tested = c .before .before .before .before in
     let a = tested .before .before .args in
     let ok = gone-on (tested .before .cause .ensures) (sym (tested .is-refused .ensures) ∙ c .before .before .before .if1 .left) in
-    plain-found (a .self) ok (layoutColumns (a .self)) 10 (plain-columns (a .self)) (a .block) (a .i) (omega arith)
+    plain-found (a .self) ok (layoutColumns (a .self)) columnMany (plain-columns (a .self)) (a .block) (a .i) (omega arith)
     (rw (c .before .before .column-sizes .ensures) at (c .before .if2 .left)) (c .column-at .ensures)
 
 pub plain-column-spec : {M : Type 1} → statement M

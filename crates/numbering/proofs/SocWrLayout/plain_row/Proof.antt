@@ -2,6 +2,7 @@
 use borrow.Author.Needs.{needs}
 use mathlib.Core.Path.{sym, _∙_}
 use native.Mathlib.Omega.{arith}
+use Rattle.numbering.specs.Numbering.{jabrRows}
 use Rattle.numbering.specs.Layout.{layoutRows}
 use Rattle.numbering.specs.Lookups.{inLayout}
 use Rattle.numbering.proofs.Layouts.{in-range}
@@ -20,7 +21,7 @@ returns-2 c =
     let tested = c .before .before .before in
     let a = tested .before .before .args in
     let ok = gone-on (tested .before .cause .ensures) (sym (tested .is-refused .ensures) ∙ c .before .before .if1 .left) in
-    plain-past (a .self) ok (layoutRows (a .self)) 15 (plain-rows (a .self)) (a .block) (a .i) (omega arith)
+    plain-past (a .self) ok (layoutRows (a .self)) jabrRows (plain-rows (a .self)) (a .block) (a .i) (omega arith)
     (rw (c .before .row-sizes .ensures) at (c .if2 .taken))
 
 row-sizes-requires : tie.Need-row-sizes-requires
@@ -41,7 +42,7 @@ returns-3 c =
     let tested = c .before .before .before .before in
     let a = tested .before .before .args in
     let ok = gone-on (tested .before .cause .ensures) (sym (tested .is-refused .ensures) ∙ c .before .before .before .if1 .left) in
-    plain-found (a .self) ok (layoutRows (a .self)) 15 (plain-rows (a .self)) (a .block) (a .i) (omega arith)
+    plain-found (a .self) ok (layoutRows (a .self)) jabrRows (plain-rows (a .self)) (a .block) (a .i) (omega arith)
     (rw (c .before .before .row-sizes .ensures) at (c .before .if2 .left)) (c .row-at .ensures)
 
 pub plain-row-spec : {M : Type 1} → statement M

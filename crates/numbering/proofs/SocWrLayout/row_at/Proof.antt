@@ -1,6 +1,7 @@
 -- `numbering::SocWrLayout::row_at` meets its contract: a block's rows follow its start. Assumes nothing.
 use borrow.Author.Needs.{needs}
 use native.Mathlib.Omega.{arith}
+use Rattle.numbering.specs.Numbering.{jabrRows}
 use Rattle.numbering.specs.Layout.{layoutRows}
 use Rattle.numbering.proofs.Entered.{plain-number, plain-rows}
 use Rattle.numbering.proofs.SocWrLayout.row_at.Statement.{statement}
@@ -9,7 +10,7 @@ use Rattle.numbering.proofs.SocWrLayout.row_at.Tie as tie
 returns : tie.Need-returns
 returns c =
     let a = c .before .args in
-    let number = plain-number (layoutRows (a .self)) 15 (plain-rows (a .self)) (a .block) (a .i) (omega arith) in
+    let number = plain-number (layoutRows (a .self)) jabrRows (plain-rows (a .self)) (a .block) (a .i) (omega arith) in
     omega (arith, c .row-start .ensures .0)
 
 pub row-at-spec : {M : Type 1} → statement M
