@@ -61,23 +61,9 @@ bit-when false x = refl
 ones : {A : Type 0} (n : ℕ) (p : ℕ → Bool) (x : A) → each n (λ i. when (p i) (x ∷ [])) ≡ listed (count n p) (λ i. x)
 ones n p x = each-ext _ _ n (λ i l. sym (bit-when (p i) x)) ∙ sym (each-sums (λ i. bit (p i)) (λ i. x ∷ []) n)
 
-eight-blocks : {A : Type 0} (k n m : ℕ) (x : A) (a c : List A)
-    → a ++ listed k (λ e. x) ++ listed n (λ e. x) ++ listed m (λ e. x) ++ listed m (λ e. x) ++ listed m (λ e. x) ++ listed m (λ e. x) ++ listed m (λ e. x) ++ listed m (λ e. x) ++ c
-    ≡ a ++ listed (k + n + 6 * m) (λ e. x) ++ c
-eight-blocks k n m x a c =
-    let f : ℕ → List _ = λ i. x ∷ [] in
-    let e : k + n + 6 * m ≡ k + n + m + m + m + m + m + m = omega arith in
-    rw (
-      e,
-      each-split f (k + n + m + m + m + m + m) m,
-      each-split f (k + n + m + m + m + m) m,
-      each-split f (k + n + m + m + m) m,
-      each-split f (k + n + m + m) m,
-      each-split f (k + n + m) m,
-      each-split f (k + n) m,
-      each-split f k n,
-    )
-    (simp append-assoc)
+-- a run of the same behind another
+runs : {A : Type 0} (x : A) (a : List A) (n m : ℕ) → a ++ listed n (λ e. x) ++ listed m (λ e. x) ≡ a ++ listed (n + m) (λ e. x)
+runs x a n m = rw (each-split (λ e. x ∷ []) n m) (append-assoc a (listed n (λ e. x)) (listed m (λ e. x)))
 
 -- the rows of wlb, and of qglb, are among all
 module _ (l : SocWrLayout) where
@@ -97,10 +83,11 @@ module _ (l : SocWrLayout) (bytes : List ℕ) (laid : Laid l bytes) where
       ≡ listed (l .k) (linearCost l bytes) ++ listed (layoutColumn l (CostOf 0) - layoutColumn l (Qg 0)) (λ c. zero64) ++ listed (l .«cost_columns») (λ c. add binary64 zero64 (rounded .one))
   unfolding linearCost
   linear-parts =
-      let e : layoutColumn l (CostOf 0) - layoutColumn l (Qg 0) ≡ l .k + l .n + 6 * l .m = omega (arith, layout-column l (CostOf 0), layout-column l (Qg 0)) in
       linear-side (netOf l bytes)
-      ∙ rw (e, ones (l .k) (netOf l bytes .piecewise) (add binary64 zero64 (rounded .one)), ← curves-are l bytes laid)
-      (eight-blocks (l .k) (l .n) (l .m) zero64 (listed (l .k) (linearCost l bytes)) (listed (l .«cost_columns») (λ c. add binary64 zero64 (rounded .one))))
+      ∙ rw (ones (l .k) (netOf l bytes .piecewise) (add binary64 zero64 (rounded .one)), ← curves-are l bytes laid)
+      (simp (runs zero64)
+      (ap (λ (z : ℕ). listed (l .k) (linearCost l bytes) ++ listed z (λ c. zero64) ++ listed (l .«cost_columns») (λ c. add binary64 zero64 (rounded .one)))
+      (omega (arith, layout-column l (CostOf 0), layout-column l (Qg 0)))))
 
   intercepts : each (l .k) (λ g. each (netOf l bytes .segments g) (λ t. b (netOf l bytes) (Segment g t) ∷ [])) ≡ listed (l .s) (λ r. neg (interceptOf bytes (l .n + l .m + l .k + r)))
   unfolding b
