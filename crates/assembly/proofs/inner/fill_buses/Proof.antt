@@ -7,7 +7,7 @@ use denote.Ref.{now}
 use Rattle.lists.specs.UpTo.{each}
 use Rattle.lists.proofs.Compressed.{joined-listed}
 use Rattle.numbering.specs.Laid.{netOf}
-use Rattle.numbering.specs.declared.ColumnName.the-variants.{W, Pf}
+use Rattle.numbering.specs.declared.ColumnName.the-variants.{W, Wi}
 use Rattle.numbering.proofs.Numbers.{layout-column}
 use Rattle.matrix.specs.Columns.{wCells}
 use Rattle.cells.proofs.Fills.{listed-length}
@@ -20,10 +20,10 @@ use Rattle.assembly.proofs.inner.fill_buses.Statement.{statement}
 use Rattle.assembly.proofs.inner.fill_buses.Tie as tie
 
 sub-put-buses : tie.Need-sub-put-buses
-sub-put-buses c = let l = c .before .before .before .before .before .before .before .before .args .l in omega (arith, c .before .w-column .ensures, c .pf-column .ensures, layout-column l (W 0), layout-column l (Pf 0))
+sub-put-buses c = let l = c .before .before .before .before .before .before .before .before .args .l in omega (arith, c .before .w-column .ensures, c .wi-column .ensures, layout-column l (W 0), layout-column l (Wi (l .m)))
 
 part-put-buses-start : tie.Need-part-put-buses-start
-part-put-buses-start c = let l = c .before .before .before .before .before .before .before .before .args .l in omega (arith, c .before .w-column .ensures, c .pf-column .ensures, layout-column l (W 0), layout-column l (Pf 0))
+part-put-buses-start c = let l = c .before .before .before .before .before .before .before .before .args .l in omega (arith, c .before .w-column .ensures, c .wi-column .ensures, layout-column l (W 0), layout-column l (Wi (l .m)))
 
 put-buses-requires : tie.Need-put-buses-requires
 put-buses-requires c κs =
@@ -32,9 +32,9 @@ put-buses-requires c κs =
     let h = s .pre in
     let n = c .before .before .before .before .before .before .count-buses .ensures .0 in
     let w = c .before .before .before .before .w-column .ensures in
-    let p = c .before .before .before .pf-column .ensures in
+    let p = c .before .before .before .wi-column .ensures in
     let m = columns-most (a .l) (now (a .bytes)) (h .0) in
-    (h .0, (simp (length-take, length-drop) (omega (arith, h .1 .0 .1, w, p, layout-column (a .l) (W 0), layout-column (a .l) (Pf 0))), (omega (arith, h .1 .0 .0), (omega (arith, m, n), omega (arith, h .1 .1, n)))))
+    (h .0, (simp (length-take, length-drop) (omega (arith, h .1 .0 .1, w, p, layout-column (a .l) (W 0), layout-column (a .l) (Wi (a .l .m)))), (omega (arith, h .1 .0 .0), (omega (arith, m, n), omega (arith, h .1 .1, n)))))
 
 returns : tie.Need-returns
 returns c =
@@ -44,9 +44,9 @@ returns c =
     let G = netOf (a .l) (now (a .bytes)) in
     let first = c .before .before .before .before .before .before .before .before .before .before .before .w-column .result in
     let w = c .before .before .before .before .before .before .before .before .before .before .before .w-column .ensures in
-    let p = c .before .before .before .before .before .before .before .before .before .before .pf-column .ensures in
+    let p = c .before .before .before .before .before .before .before .before .before .before .wi-column .ensures in
     let o = c .before .before .before .before .before .before .put-buses in
-    let e : c .before .before .before .before .before .before .before .before .before .before .pf-column .result + 1 ≡ first + 1 + a .l .n + 2 * a .l .m = omega (arith, w, p, layout-column (a .l) (W 0), layout-column (a .l) (Pf 0)) in
+    let e : c .before .before .before .before .before .before .before .before .before .before .wi-column .result + 1 ≡ first + 1 + a .l .n + 2 * a .l .m = omega (arith, w, p, layout-column (a .l) (W 0), layout-column (a .l) (Wi (a .l .m))) in
     let cells = rw (sym (joined-listed (a .l .n) (wCells G))) at (o .ensures .0) in (
       rw (← w, e) (part-ahead {c = first} {n = a .l .n} {used = 2 * a .l .m} (o .last .0) (each (a .l .m) (fourOf G)) (omega (arith, e, p, h)) (listed-length (wCells G) (a .l .n)) cells (omega arith)
           (omega (arith, fours-length G (a .l .m), c .before .before .before .before .before .before .before .before .before .before .before .before .before .count-buses .ensures .0)) (o .ensures .1 .0) (omega (arith, o .kept, e))),
