@@ -17,7 +17,7 @@ use Rattle.numbering.specs.Layout.{layoutColumn, nvarOf}
 use Rattle.numbering.specs.Numbering.{nvar}
 use Rattle.numbering.specs.Laid.{netOf, Laid}
 use Rattle.numbering.specs.declared.SocWrLayout.{SocWrLayout}
-use Rattle.numbering.specs.declared.ColumnName.the-variants.{Pg, Qg}
+use Rattle.numbering.specs.declared.ColumnName.the-variants.{Pg}
 use Rattle.numbering.proofs.Numbers.{column-number, layout-column, layout-nvar}
 use Rattle.numbering.proofs.Laid.{laid-nvar}
 use Rattle.rows.specs.Rows.{zero64}
@@ -51,12 +51,12 @@ module _ (l : SocWrLayout) (bytes : List ℕ) where
   module _ (laid : Laid l bytes) where
     -- the columns behind pg
     abbrev others : ℕ
-    others = nvarOf l - layoutColumn l (Qg 0)
+    others = nvarOf l - layoutColumn l (Pg (l .k))
 
     pub quad-parts : quadraticMatrix (netOf l bytes) ≡ listed (l .k) (quadCells l bytes) ++ listed others (λ c. [])
     unfolding quadraticMatrix
     quad-parts =
-        let e : nvar (netOf l bytes) ≡ l .k + others = omega (arith, laid-nvar l bytes laid, layout-nvar l, layout-column l (Qg 0)) in
+        let e : nvar (netOf l bytes) ≡ l .k + others = omega (arith, laid-nvar l bytes laid, layout-nvar l, layout-column l (Pg (l .k))) in
         ap (λ (n : ℕ). listed n (λ c. select c (quadratic (netOf l bytes)))) e
         ∙ each-split (λ c. select c (quadratic (netOf l bytes)) ∷ []) (l .k) others
         ∙ rw (

@@ -14,7 +14,7 @@ use Rattle.numbering.specs.Layout.{layoutColumn, layoutRow, nvarOf, nconOf}
 use Rattle.records.proofs.Segments.{segment-record}
 use Rattle.numbering.specs.Laid.{netOf, Laid}
 use Rattle.numbering.specs.declared.SocWrLayout.{SocWrLayout}
-use Rattle.numbering.specs.declared.ColumnName.the-variants.{Qg, CostOf}
+use Rattle.numbering.specs.declared.ColumnName.the-variants.{Pg, CostOf}
 use Rattle.numbering.specs.declared.RowName.{RowName}
 use Rattle.numbering.specs.declared.RowName.the-variants.{Pbal, Qbal, OhmPf, OhmQf, OhmPt, OhmQt, Wub, Wlb, Pgub, Pglb, Qgub, Qglb, Angub, Anglb, Segment}
 use Rattle.numbering.proofs.Numbers.{layout-column, layout-row, layout-ncon}
@@ -80,14 +80,14 @@ module _ (l : SocWrLayout) (bytes : List ℕ) (laid : Laid l bytes) where
   linear-length = listed-length _ _ ∙ sym (laid-nvar l bytes laid)
 
   pub linear-parts : linear (netOf l bytes)
-      ≡ listed (l .k) (linearCost l bytes) ++ listed (layoutColumn l (CostOf 0) - layoutColumn l (Qg 0)) (λ c. zero64) ++ listed (l .«cost_columns») (λ c. add binary64 zero64 (rounded .one))
+      ≡ listed (l .k) (linearCost l bytes) ++ listed (layoutColumn l (CostOf 0) - layoutColumn l (Pg (l .k))) (λ c. zero64) ++ listed (l .«cost_columns») (λ c. add binary64 zero64 (rounded .one))
   unfolding linearCost
   linear-parts =
       linear-side (netOf l bytes)
       ∙ rw (ones (l .k) (netOf l bytes .piecewise) (add binary64 zero64 (rounded .one)), ← curves-are l bytes laid)
       (simp (runs zero64)
       (ap (λ (z : ℕ). listed (l .k) (linearCost l bytes) ++ listed z (λ c. zero64) ++ listed (l .«cost_columns») (λ c. add binary64 zero64 (rounded .one)))
-      (omega (arith, layout-column l (CostOf 0), layout-column l (Qg 0)))))
+      (omega (arith, layout-column l (CostOf 0), layout-column l (Pg (l .k))))))
 
   intercepts : each (l .k) (λ g. each (netOf l bytes .segments g) (λ t. b (netOf l bytes) (Segment g t) ∷ [])) ≡ listed (l .s) (λ r. neg (interceptOf bytes (l .n + l .m + l .k + r)))
   unfolding b

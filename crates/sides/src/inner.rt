@@ -232,15 +232,15 @@ fn fill_costs(out: &mut [f64], l: SocWrLayout, bytes: &[u8])
     }
 }
 
-// All of q. The columns from qg to the first of cost have zeros.
+// All of q. The columns behind those of pg have zeros, up to the first of cost.
 pub fn fill_q(out: &mut [f64], l: SocWrLayout, bytes: &[u8])
     requires { ⌜ Laid l (now bytes) ⌝ }
     requires { ⌜ nvarOf l ≤ length (now out) ⌝ }
     ensures { λ _. ⌜ now (out .exit) ≡ overlay (linear (netOf l (now (bytes .entry)))) (now (out .entry)) ⌝ }
 {
-    let qg = l.qg_column(0) as usize;
+    let behind = l.pg_column(l.k) as usize;
     let cost = l.cost_column(0) as usize;
     fill_costs(out, l, bytes);
-    fill_all(out, qg, cost - qg, 0.0);
+    fill_all(out, behind, cost - behind, 0.0);
     fill_all(out, cost, l.cost_columns, 0.0 + 1.0);
 }

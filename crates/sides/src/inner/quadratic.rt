@@ -78,10 +78,10 @@ pub fn fill_p(
     requires { ⌜ Laid l (now bytes) ⌝ }
     ensures { λ x. ⌜ Whole (quadraticMatrix (netOf l (now (bytes .entry)))) (now (starts .entry)) (now (rows .entry)) (now (vals .entry)) (now (starts .exit)) (now (rows .exit)) (now (vals .exit)) x ⌝ }
 {
-    let qg = l.qg_column(0) as usize;
-    let others = l.column_count() as usize - qg;
+    let behind = l.pg_column(l.k) as usize;
+    let others = l.column_count() as usize - behind;
     store_u32(starts, 0, 0);
     let next = put_quads(starts, rows, vals, l, bytes);
-    put_empty(starts, qg, others, next as u32);
+    put_empty(starts, behind, others, next as u32);
     next
 }
