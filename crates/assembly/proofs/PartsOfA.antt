@@ -18,16 +18,13 @@ use Rattle.numbering.specs.declared.SocWrLayout.{SocWrLayout}
 use Rattle.numbering.proofs.Laid.{laid-nvar}
 use Rattle.rows.specs.Rows.{OhmRow, pf, qf, pt, qt}
 use Rattle.rows.specs.Program.{matrix}
-use Rattle.matrix.specs.Columns.{oneCell, pgCells, qgCells, wCells, wrCells, wiCells, flowCells}
+use Rattle.matrix.specs.Columns.{oneCell, wCells, flowCells}
 use Rattle.matrix.proofs.Same.{matrix-columns}
 use Rattle.bus_columns.specs.Counts.{ownCells}
 use Rattle.bus_columns.proofs.Counts.{columns-least}
 use Rattle.record_columns.specs.Writers.{costTurn}
 use Rattle.assembly.specs.Parts.{generatorColumns, productColumns, flowColumns, branchColumns}
 use Rattle.cells.proofs.Fills.{listed-length}
-
-regroup : {A : Type 0} (a b c d e f g h i j : List A) → a ++ b ++ c ++ d ++ e ++ f ++ g ++ h ++ i ++ j ≡ (a ++ b) ++ c ++ ((d ++ e) ++ (f ++ g ++ h ++ i) ++ j)
-regroup a b c d e f g h i j = simp append-assoc
 
 module _ (l : SocWrLayout) (bytes : List ℕ) where
   abbrev G : AcNetwork Float
@@ -76,7 +73,7 @@ module _ (l : SocWrLayout) (bytes : List ℕ) where
     unfolding generatorColumns branchColumns productColumns flowColumns costTurn
     matrix-parts =
         matrix-columns G (sound (l .n) (l .m) (l .k) (l .s) bytes (laid .accepted)) (laid .accepted .bus-below)
-        ∙ regroup (listed (l .k) (pgCells G)) (listed (l .k) (qgCells G)) (listed (l .n) (wCells G)) (listed (l .m) (wrCells G)) (listed (l .m) (wiCells G)) (listed (l .m) (flowCells G pf)) (listed (l .m) (flowCells G pt)) (listed (l .m) (flowCells G qf)) (listed (l .m) (flowCells G qt)) (each (l .k) (costTurn G))
+        ∙ simp append-assoc
 
     pub matrix-starts : length (startsFrom 0 (matrix G)) ≡ nvarOf l + 1
     unfolding matrix

@@ -17,7 +17,7 @@ use Rattle.manual.specs.Balance.{sumTo}
 use Rattle.manual.specs.Objective.{polynomial, squared, linear, polynomials, variables}
 use Rattle.manual.proofs.Sums.{sum-ext, sum-zero, sum-add, mul-sum, total, total-append, total-each, total-listed, total-when}
 use Rattle.numbering.specs.declared.ColumnName.{ColumnName}
-use Rattle.numbering.specs.declared.ColumnName.the-variants.{Pg, Qg, W, Wr, Wi, Pf, Pt, Qf, Qt, CostOf}
+use Rattle.numbering.specs.declared.ColumnName.the-variants.{Pg, CostOf}
 
 -- what one generator adds to x'Px + 2 q'x, and twice its polynomial
 module _ {A : Type 0} (o : Ops A) where
@@ -41,11 +41,10 @@ module _ {A : Type 0} (o : Ops A) (R : CommutativeRing o) (G : AcNetwork A) (x :
   costs c = linearAt o G c * x c
 
   -- a block of columns where q is 0 adds nothing, and those before it stay
-  idle : (n : ℕ) (c : ℕ → ColumnName) → ((i : ℕ) → linearAt o G (c i) ≡ o .zero) → (xs : List A) → total o R (xs ++ each n (λ i. costs (c i) ∷ [])) ≡ total o R xs
-  idle n c h xs =
-      total-append o R xs (each n (λ i. costs (c i) ∷ []))
-      ∙ ap (λ t. total o R xs + t)
-      (total-listed o R n (λ i. costs (c i)) ∙ sum-zero o R n (λ i. costs (c i)) (λ i l. ap (λ t. t * x (c i)) (h i) ∙ zero-mul o R (x (c i))))
+  idle : (n : ℕ) (f : ℕ → A) (xs : List A) → total o R (xs ++ each n (λ i. o .zero * f i ∷ [])) ≡ total o R xs
+  idle n f xs =
+      total-append o R xs (each n (λ i. o .zero * f i ∷ []))
+      ∙ ap (λ t. total o R xs + t) (total-listed o R n (λ i. o .zero * f i) ∙ sum-zero o R n (λ i. o .zero * f i) (λ i l. zero-mul o R (f i)))
       ∙ R .add-zero (total o R xs)
 
   -- a cost column's 1, where the generator has one
@@ -55,25 +54,13 @@ module _ {A : Type 0} (o : Ops A) (R : CommutativeRing o) (G : AcNetwork A) (x :
 
   linear-law : linear o G x ≡ sumTo o (G .k) (λ g. costs (Pg g)) + variables o G x
   linear-law =
-      let pg : List A = each (G .k) (λ g. costs (Pg g) ∷ []) in
-      let qg : List A = pg ++ each (G .k) (λ g. costs (Qg g) ∷ []) in
-      let w : List A = qg ++ each (G .n) (λ i. costs (W i) ∷ []) in
-      let wr : List A = w ++ each (G .m) (λ e. costs (Wr e) ∷ []) in
-      let wi : List A = wr ++ each (G .m) (λ e. costs (Wi e) ∷ []) in
-      let pf : List A = wi ++ each (G .m) (λ e. costs (Pf e) ∷ []) in
-      let pt : List A = pf ++ each (G .m) (λ e. costs (Pt e) ∷ []) in
-      let qf : List A = pt ++ each (G .m) (λ e. costs (Qf e) ∷ []) in
-      let qt : List A = qf ++ each (G .m) (λ e. costs (Qt e) ∷ []) in
-      let cost : List A = each (G .k) (λ g. when (G .piecewise g) (costs (CostOf g) ∷ [])) in
       sym (total-listed o R (nvar G) (λ c. costs (columnAt G c)))
       ∙ ap (total o R) (every-column G (λ c. costs (columnAt G c) ∷ []) (λ c. costs c ∷ []) (λ c h. ap (λ (d : ColumnName). costs d ∷ []) (column-placed G c h)))
-      ∙ total-append o R qt cost
-      ∙ ap₂ _+_
-      (idle (G .m) Qt (λ i. refl) qf ∙ idle (G .m) Qf (λ i. refl) pt ∙ idle (G .m) Pt (λ i. refl) pf ∙ idle (G .m) Pf (λ i. refl) wi
-      ∙ idle (G .m) Wi (λ i. refl) wr ∙ idle (G .m) Wr (λ i. refl) w ∙ idle (G .n) W (λ i. refl) qg ∙ idle (G .k) Qg (λ i. refl) pg
-      ∙ total-listed o R (G .k) (λ g. costs (Pg g)))
+      ∙ rw (total-append o R)
+      (ap₂ _+_
+      (simp idle (total-listed o R (G .k) (λ g. costs (Pg g))))
       (total-each o R (G .k) (λ g. when (G .piecewise g) (costs (CostOf g) ∷ []))
-      ∙ sum-ext o R (G .k) (λ g. total o R (when (G .piecewise g) (costs (CostOf g) ∷ []))) (λ g. cond (G .piecewise g) (x (CostOf g)) (o .zero)) (λ g l. priced (G .piecewise g) g))
+      ∙ sum-ext o R (G .k) (λ g. total o R (when (G .piecewise g) (costs (CostOf g) ∷ []))) (λ g. cond (G .piecewise g) (x (CostOf g)) (o .zero)) (λ g l. priced (G .piecewise g) g)))
 
   -- one generator
   generator : (g : ℕ) → curved o (G .cq g) (G .cl g) (x (Pg g)) ≡ doubled o (G .cq g) (G .cl g) (x (Pg g))

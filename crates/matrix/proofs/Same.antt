@@ -13,7 +13,6 @@ use Rattle.lists.specs.Entries.{Entry, entry, Cell, cell, select}
 use Rattle.lists.proofs.Each.{each-ext}
 use Rattle.records.specs.AcNetwork.{AcNetwork}
 use Rattle.records.proofs.Sound.{Sound}
-use Rattle.numbering.specs.Blocks.{key}
 use Rattle.numbering.specs.Numbering.{columnKey, columnOf, columnNumber, rowNumber}
 use Rattle.numbering.specs.declared.Key.{Key}
 use Rattle.numbering.specs.declared.ColumnName.{ColumnName}
@@ -162,9 +161,6 @@ module _ (G : AcNetwork Float) where
 
 -- ---- the cells at a number are the cells at the name
 
-key-same : {b b′ i i′ : ℕ} → b ≡ b′ → i ≡ i′ → key b i 0 ≡ key b′ i′ 0
-key-same p q = rw (p, q)
-
 -- two columns of a network have the same number only if they are the same
 pub number-same : (G : AcNetwork Float) (a b : ColumnName) → HasColumn G a → HasColumn G b → eqb (columnNumber G a) (columnNumber G b) ≡ same a b
 number-same G a b ha hb = elim (ℕ-discrete (columnNumber G a) (columnNumber G b)) [
@@ -181,20 +177,10 @@ number-same G a b ha hb = elim (ℕ-discrete (columnNumber G a) (columnNumber G 
   ])
 ]
   where
-    place-zero : (x : ColumnName) → columnKey x ≡ key (columnKey x .block) (columnKey x .item) 0
-    place-zero (Pg g) = refl
-    place-zero (Qg g) = refl
-    place-zero (W i) = refl
-    place-zero (Wr e) = refl
-    place-zero (Wi e) = refl
-    place-zero (Pf e) = refl
-    place-zero (Pt e) = refl
-    place-zero (Qf e) = refl
-    place-zero (Qt e) = refl
-    place-zero (CostOf g) = refl
-
     names : columnKey a .block ≡ columnKey b .block → columnKey a .item ≡ columnKey b .item → a ≡ b
-    names k i = sym (column-of a) ∙ ap columnOf (place-zero a ∙ key-same k i ∙ sym (place-zero b)) ∙ column-of b
+    names k i =
+        let e : columnOf (columnKey a) ≡ columnOf (columnKey b) = rw (k, i) in
+        sym (column-of a) ∙ e ∙ column-of b
 
 row-same : (G : AcNetwork Float) (κ : ColumnName) → HasColumn G κ → (r : ℕ) (ts : List Term) → All G ts → select (columnNumber G κ) (inRow G r ts) ≡ cut κ r ts
 unfolding select cut oneCell
