@@ -3,7 +3,6 @@ use Prim.Native.Nat.{ℕ, _+_}
 use mathlib.Core.Path.{_≡_, refl, sym, _∙_, ap, ap₂, subst}
 use mathlib.Core.Bool.{Bool, true, false, cond, _||_}
 use mathlib.Core.List.{List}
-use native.Mathlib.Omega.{arith}
 use lib.Dec.{T}
 use lib.ListN.{getD}
 use lib.Ieee.{Float, nan, inf, fin, binary64, ofBits, neg, add, div, lt, ne, isNan}
@@ -17,7 +16,6 @@ use Rattle.records.specs.Network.{networkOf, segmentsBefore, segmentRecord}
 use Rattle.records.proofs.Segments.{segment-record}
 use Rattle.numbering.specs.Numbering.{columnNumber}
 use Rattle.numbering.specs.declared.ColumnName.the-variants.{Pg}
-use Rattle.numbering.proofs.Numbers.{numbers}
 use Rattle.rows.specs.Rows.{zero64}
 
 or-true : (t : Bool) → t || true ≡ true
@@ -68,13 +66,12 @@ module _ (n m k s : ℕ) (b : List ℕ) where
   costAt r first count x =
       cond (piecewiseOf b r) (highest (λ t. slopeOf b (first + t)) (λ t. interceptOf b (first + t)) count x) (parabola (cqOf b r) (clOf b r) (ccOf b r) x)
 
-  pub total-more : (x : List Float) (g first count : ℕ) (sum v : Float)
-      → first ≡ n + m + k + segmentsBefore n m b g → count ≡ segmentsOf b (n + m + g)
-      → sum ≡ total-so-far (networkOf n m k s b) x g → v ≡ costAt (n + m + g) first count (getD x g nan)
+  pub total-more : (x : List Float) (g first count place : ℕ) (sum v : Float)
+      → first ≡ n + m + k + segmentsBefore n m b g → count ≡ segmentsOf b (n + m + g) → place ≡ columnNumber (networkOf n m k s b) (Pg g)
+      → sum ≡ total-so-far (networkOf n m k s b) x g → v ≡ costAt (n + m + g) first count (getD x place nan)
       → add binary64 sum v ≡ total-so-far (networkOf n m k s b) x (g + 1)
   unfolding generatorCost
-  total-more x g first count sum v e f h w =
-      let at : g ≡ columnNumber (networkOf n m k s b) (Pg g) = simp numbers (omega arith) in
+  total-more x g first count place sum v e f at h w =
       let there : (t : ℕ) → first + t ≡ segmentRecord n m k b g t = λ t. segment-record n m k b g t e in
       let cost : v ≡ generatorCost (networkOf n m k s b) g (getD x (columnNumber (networkOf n m k s b) (Pg g)) nan)
       = w ∙ simp (there, f) (ap (λ (i : ℕ). generatorCost (networkOf n m k s b) g (getD x i nan)) at) in

@@ -17,38 +17,26 @@ use Rattle.refusals.specs.declared.Checked.{Checked}
 use Rattle.refusals.specs.declared.Checked.the-variants.{Accepted, Refused}
 use Rattle.refusals.specs.declared.Refusal.the-variants.{PastEnd}
 use Rattle.refusals.proofs.Laws.{passed, orElse-accepted, test-held, left-written}
-use Rattle.records.specs.AcNetwork.{AcNetwork}
 use Rattle.records.specs.Network.{networkOf}
-use Rattle.records.specs.Network as Network
 use Rattle.records.specs.Check.{checkOf}
 use Rattle.records.proofs.Laws.{accepted}
-use Rattle.numbering.specs.Numbering.{nvar, columnNumber}
-use Rattle.numbering.specs.Layout.{layoutOf, layoutColumn, nvarOf}
+use Rattle.numbering.specs.Numbering.{ncon, columnNumber, rowNumber}
+use Rattle.numbering.specs.Layout.{layoutOf, layoutColumn, layoutRow, nvarOf, nconOf}
 use Rattle.numbering.specs.Lookups.{layoutIf}
 use Rattle.numbering.specs.Laid.{netOf, Laid}
 use Rattle.numbering.specs.declared.SocWrLayout.{SocWrLayout}
 use Rattle.numbering.specs.declared.ColumnName.the-variants.{Pg, Qg, W, Wr, Wi, Pf, Pt, Qf, Qt}
-use Rattle.numbering.proofs.Laid.{laid, laid-nvar}
-use Rattle.numbering.proofs.Numbers.{numbers, column-number, ncon-number, layout-column, layout-nvar}
+use Rattle.numbering.specs.declared.RowName.the-variants.{Pbal, Qbal}
+use Rattle.numbering.proofs.Laid.{laid, laid-nvar, laid-ncon, laid-row}
+use Rattle.numbering.proofs.Numbers.{column-number, layout-column, layout-row, layout-nvar}
 use Rattle.solution.proofs.Lengths.{x-long, z-long}
 use Rattle.reading.specs.Reading.{partColumn, partCount, partList, partIf, partCheck, partOf, pricesCheck, priceList, scalarIf, objectiveAt}
 use Rattle.reading.specs.declared.SolutionList.{SolutionList}
+use Rattle.reading.proofs.Halves.{negated}
 use Rattle.reading.specs.declared.SolutionList.the-variants as SolutionList
 use Rattle.reading.specs.declared.PreparedObjective.the-variants.{Other}
 use Rattle.reading.specs.declared.Scalar.{Scalar}
 use Rattle.reading.specs.declared.Scalar.the-variants as Scalar
-
--- ---- what an accepted reading has
-module _ (n m k s : ℕ) (b : List ℕ) where
-  abbrev G : AcNetwork Float
-  G = networkOf n m k s b
-
-  -- a check r that did not refuse
-  pub part-went : (x : List Float) {r : Checked} → r ≡ partCheck n m k s b x → isRefused r ≡ false → Network.Accepted n m k s b × (length x ≡ nvar G)
-  unfolding partCheck
-  part-went x {r} e h =
-      let p = orElse-accepted _ _ (sym e ∙ passed r h) in
-      (accepted n m k s b (p .0), x-long G (length x) (p .1))
 
 -- ---- a part of x
 no-part : (r : Checked) (xs : List Float) → isRefused r ≡ true → _≡_ {A = List Float} [] (partIf r xs)
@@ -68,7 +56,7 @@ module _ (l : SocWrLayout) (b : List ℕ) where
   abbrev start : SolutionList → ℕ
   start p = layoutColumn l (partColumn p 0)
 
-  in-order : (p : SolutionList) (i : ℕ) → start p + i ≡ columnNumber (netOf l b) (partColumn p i)
+  pub in-order : (p : SolutionList) (i : ℕ) → start p + i ≡ columnNumber (netOf l b) (partColumn p i)
   in-order SolutionList.Pg i = omega (arith, layout-column l (Pg 0), column-number (netOf l b) (Pg i))
   in-order SolutionList.Qg i = omega (arith, layout-column l (Qg 0), column-number (netOf l b) (Qg i))
   in-order SolutionList.W i = omega (arith, layout-column l (W 0), column-number (netOf l b) (W i))
@@ -124,23 +112,48 @@ module _ (n m k s : ℕ) (b : List ℕ) where
 
 -- ---- the prices
 module _ (n m k s : ℕ) (b : List ℕ) where
-  pub prices-went : (z : List Float) (room : ℕ) → pricesCheck n m k s b z room ≡ Accepted → Network.Accepted n m k s b × (n + n ≤ length z) × (n + n ≤ room)
-  unfolding pricesCheck
-  prices-went z room h =
-      let p = orElse-accepted _ _ h in
-      let q = orElse-accepted _ _ (p .1) in
-      (accepted n m k s b (p .0), omega (arith, z-long (networkOf n m k s b) (length z) (q .0), ncon-number (networkOf n m k s b)), leb-true _ _ (test-held _ _ (q .1)))
+  -- what the code works with where prices are not refused: the layout, and a z as long as the rows
+  pub record Priced (z : List Float) (room : ℕ) (l : SocWrLayout) : Type 0 where
+    pub laid : Laid l b
+    pub long : length z ≡ nconOf l
+    pub fits : n + n ≤ room
+    pub buses : l .n ≡ n
+    pub net : netOf l b ≡ networkOf n m k s b
 
-  price-list : (z : List Float) → listed n (λ i. neg (getD z i nan)) ++ listed n (λ i. neg (getD z (n + i) nan)) ≡ priceList (networkOf n m k s b) z
+  pub prices-went : {z : List Float} {room : ℕ} {r : Checked} {l : SocWrLayout} → r ≡ pricesCheck n m k s b z room → isRefused r ≡ false
+      → l ≡ layoutIf (checkOf n m k s b) (networkOf n m k s b) → Priced z room l
+  unfolding pricesCheck
+  prices-went {z} {l = l} d h e =
+      let p = orElse-accepted _ _ (sym d ∙ passed _ h) in
+      let q = orElse-accepted _ _ (p .1) in
+      let is : l ≡ layoutOf (networkOf n m k s b) = rw (p .0) at e in
+      let here : Laid l b = laid n m k s b (accepted n m k s b (p .0)) is in
+      let net : netOf l b ≡ networkOf n m k s b = rw is in
+      record {
+        laid = here;
+        long = z-long (networkOf n m k s b) (length z) (q .0) ∙ sym (ap ncon net) ∙ sym (laid-ncon l b here);
+        fits = leb-true _ _ (test-held _ _ (q .1));
+        buses = rw is;
+        net = net;
+      }
+
+  pub prices-left : (z ys out : List Float) {c : Checked} {l : SocWrLayout} {active reactive : ℕ} → Laid l b → netOf l b ≡ networkOf n m k s b
+      → active ≡ layoutRow l (Pbal 0) → reactive ≡ layoutRow l (Qbal 0) → c ≡ Accepted
+      → out ≡ overlay (negated z n active ++ negated z n reactive) ys → out ≡ leftIn c (priceList (networkOf n m k s b) z) ys
   unfolding priceList
-  price-list z = ap₂ _++_ (each-ext _ _ n (λ i l. same i _ (simp numbers (omega arith)))) (each-ext _ _ n (λ i l. same (n + i) _ (simp numbers (omega arith))))
+  prices-left z ys out {l = l} {active} {reactive} h net a r e w =
+      w
+      ∙ ap (λ (xs : List Float). overlay xs ys) (ap₂ _++_ (each-ext _ _ n (λ i t. same (active + i) _ (pbal i))) (each-ext _ _ n (λ i t. same (reactive + i) _ (qbal i))))
+      ∙ sym (left-written _ ys e)
     where
       same : (i j : ℕ) → i ≡ j → _≡_ {A = List Float} (neg (getD z i nan) ∷ []) (neg (getD z j nan) ∷ [])
       same i j e = rw e
 
-  pub prices-left : (z ys out : List Float) {c : Checked} → c ≡ Accepted
-      → out ≡ overlay (listed n (λ i. neg (getD z i nan)) ++ listed n (λ i. neg (getD z (n + i) nan))) ys → out ≡ leftIn c (priceList (networkOf n m k s b) z) ys
-  prices-left z ys out e h = h ∙ ap (λ (xs : List Float). overlay xs ys) (price-list z) ∙ sym (left-written _ ys e)
+      pbal : (i : ℕ) → active + i ≡ rowNumber (networkOf n m k s b) (Pbal i)
+      pbal i = rw (← net) (omega (arith, a, layout-row l (Pbal 0), layout-row l (Pbal i), laid-row l b h (Pbal i) refl))
+
+      qbal : (i : ℕ) → reactive + i ≡ rowNumber (networkOf n m k s b) (Qbal i)
+      qbal i = rw (← net) (omega (arith, r, layout-row l (Qbal 0), layout-row l (Qbal i), laid-row l b h (Qbal i) refl))
 
 -- ---- the objective
 pub no-scalar : (c : Checked) (v w : Float) → isRefused c ≡ true → scalarIf c v ≡ scalarIf c w

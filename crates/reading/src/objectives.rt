@@ -1,17 +1,19 @@
 // The objective's value.
 use crate::PreparedObjective;
 use crate::Scalar;
+use crate::checks::check_part;
 use crate::inner::cost;
 use crate::part_check;
+use numbering::SocWrLayout;
 use refusals::Checked;
 use refusals::Refusal;
 use refusals::is_refused;
 use refusals::or_else;
-use refusals::refuse_unless;
 ghost use mathlib.Core.Path.{_≡_};
 ghost use Prim.Native.Nat.{_≤_};
 ghost use lib.ListN.{length};
-ghost use Rattle.records.specs.Network.{Accepted, networkOf};
+ghost use Rattle.numbering.specs.Layout.{nvarOf};
+ghost use Rattle.numbering.specs.Laid.{netOf, Laid};
 ghost use Rattle.reading.specs.Reading.{scalarIf, objectiveOf, objectiveAnswer, objectiveAt, codeAnswer};
 
 fn scalar_if(check: Checked, v: f64) -> Scalar
@@ -23,23 +25,14 @@ fn scalar_if(check: Checked, v: f64) -> Scalar
     }
 }
 
-fn value(
-    n: usize,
-    m: usize,
-    k: usize,
-    s: usize,
-    bytes: &[u8],
-    objective: PreparedObjective,
-    x: &[f64],
-    solver: f64,
-) -> f64
-    requires { ⌜ Accepted n m k s (now bytes) ⌝ }
-    requires { ⌜ k ≤ length (now x) ⌝ }
-    ensures { λ r. ⌜ r ≡ objectiveOf (networkOf n m k s (now (bytes .entry))) objective (now (x .entry)) solver ⌝ }
+fn value(l: SocWrLayout, bytes: &[u8], objective: PreparedObjective, x: &[f64], solver: f64) -> f64
+    requires { ⌜ Laid l (now bytes) ⌝ }
+    requires { ⌜ nvarOf l ≤ length (now x) ⌝ }
+    ensures { λ r. ⌜ r ≡ objectiveOf (netOf l (now (bytes .entry))) objective (now (x .entry)) solver ⌝ }
 {
     match objective {
         PreparedObjective::Feasibility => 0.0,
-        PreparedObjective::NetworkGeneratorCost => cost::total_cost(n, m, k, s, bytes, x),
+        PreparedObjective::NetworkGeneratorCost => cost::total_cost(l, bytes, x),
         PreparedObjective::Other => solver,
     }
 }
@@ -57,11 +50,12 @@ pub fn objective(
 ) -> Scalar
     ensures { λ r. ⌜ r ≡ objectiveAnswer n m k s (now (bytes .entry)) objective (now (x .entry)) solver ⌝ }
 {
-    let check = part_check(n, m, k, s, bytes, x);
+    let checked = check_part(n, m, k, s, bytes, x);
+    let check = checked.check;
     if is_refused(check) {
         return scalar_if(check, 0.0);
     }
-    Scalar::Value(value(n, m, k, s, bytes, objective, x, solver))
+    Scalar::Value(value(checked.layout, bytes, objective, x, solver))
 }
 
 // The objective that a caller's code names; 3 and above name nothing.

@@ -1,12 +1,12 @@
 // What the generators' power costs. The records are those of an accepted network.
+use numbering::SocWrLayout;
 ghost use mathlib.Core.Path.{_≡_};
-ghost use mathlib.Core.Bool.{true, cond};
+ghost use mathlib.Core.Bool.{cond};
 ghost use Prim.Native.Nat.{_+_, _*_, _≤_};
 ghost use lib.ListN.{length};
-ghost use lib.Ieee.{inf};
-ghost use Rattle.lists.specs.UpTo.{upTo};
 ghost use Rattle.records.specs.Fields.{piecewiseOf, slopeOf, interceptOf, cqOf, clOf, ccOf};
-ghost use Rattle.records.specs.Network.{Accepted, networkOf};
+ghost use Rattle.numbering.specs.Layout.{nvarOf};
+ghost use Rattle.numbering.specs.Laid.{netOf, Laid};
 ghost use Rattle.reading.specs.Cost.{max as greater, line as lineOf, parabola as parabolaOf, highest, totalCost};
 
 fn max(a: f64, v: f64) -> f64
@@ -65,18 +65,19 @@ fn generator_cost(b: &[u8], r: usize, first: usize, count: usize, x: f64) -> f64
 }
 
 // Of all generators in order. A generator's segments start where those of the one before it end.
-pub fn total_cost(n: usize, m: usize, k: usize, s: usize, b: &[u8], x: &[f64]) -> f64
-    requires { ⌜ Accepted n m k s (now b) ⌝ }
-    requires { ⌜ k ≤ length (now x) ⌝ }
-    ensures { λ r. ⌜ r ≡ totalCost (networkOf n m k s (now (b .entry))) (now (x .entry)) ⌝ }
+pub fn total_cost(l: SocWrLayout, b: &[u8], x: &[f64]) -> f64
+    requires { ⌜ Laid l (now b) ⌝ }
+    requires { ⌜ nvarOf l ≤ length (now x) ⌝ }
+    ensures { λ r. ⌜ r ≡ totalCost (netOf l (now (b .entry))) (now (x .entry)) ⌝ }
 {
-    let gens = n + m;
-    let mut first = gens + k;
+    let pg = l.pg_column(0) as usize;
+    let mut first = l.n + l.m + l.k;
     let mut sum = -0.0;
     let mut g = 0;
-    while g < k {
-        let count = records::inner::segments(b, gens + g);
-        sum += generator_cost(b, gens + g, first, count, x[g]);
+    while g < l.k {
+        let r = l.n + l.m + g;
+        let count = records::inner::segments(b, r);
+        sum += generator_cost(b, r, first, count, x[pg + g]);
         first += count;
         g += 1;
     }

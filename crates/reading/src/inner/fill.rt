@@ -19,12 +19,12 @@ fn negate(z: &[f64], out: &mut [f64])
     }
 }
 
-// The first n of z to the first n places, and the next n of z to the next n places.
-pub fn negate_both(n: usize, z: &[f64], prices: &mut [f64])
-    requires { ⌜ (n + n ≤ length (now z)) × (n + n ≤ length (now prices)) ⌝ }
-    ensures { λ _. ⌜ now (prices .exit) ≡ overlay (listed n (λ i. neg (getD (now (z .entry)) i nan)) ++ listed n (λ i. neg (getD (now (z .entry)) (n + i) nan))) (now (prices .entry)) ⌝ }
+// n elements of z from one place on to the first n places, and n from another on to the next n places.
+pub fn negate_both(n: usize, active: usize, reactive: usize, z: &[f64], prices: &mut [f64])
+    requires { ⌜ (active + n ≤ length (now z)) × (reactive + n ≤ length (now z)) × (n + n ≤ length (now prices)) ⌝ }
+    ensures { λ _. ⌜ now (prices .exit) ≡ overlay (listed n (λ i. neg (getD (now (z .entry)) (active + i) nan)) ++ listed n (λ i. neg (getD (now (z .entry)) (reactive + i) nan))) (now (prices .entry)) ⌝ }
 {
     let end = n + n;
-    negate(z, &mut prices[..n]);
-    negate(&z[n..], &mut prices[n..end]);
+    negate(&z[active..], &mut prices[..n]);
+    negate(&z[reactive..], &mut prices[n..end]);
 }
