@@ -234,11 +234,18 @@ module _ (G : AcNetwork Float) (sound : Sound G) where
         (λ e he q. zone-rows _ 3 _ (λ l. plainRow G (thermalFrom e l)) (omega arith) (λ l hl. let at = thermal-at e l in zone-fit _ _ (omega arith) (omega arith) (row (thermalFrom e l) (up-thermal e l he))))
         (λ e he q. zone-rows _ 3 _ (λ l. plainRow G (thermalTo e l)) (omega arith) (λ l hl. let at = thermal-at e (3 + l) in zone-fit _ _ (omega arith) (omega arith) (row (thermalTo e l) (up-thermal e (3 + l) he)))))
 
-    zone-quadratic : Zone r c 1 (G .k) 0 (G .k) (quadratic G)
+    -- P's diagonal, in the columns of pg
+    zone-quadratic : Zone r c 1 (nvar G) 0 (nvar G) (quadratic G)
     unfolding quadratic
     zone-quadratic =
-        zone-rows 0 (G .k) (G .k) _ (omega arith)
-        (λ g l. let here = column-number G (Pg g) in zone-fit _ _ (omega arith) (omega arith) (zone-row (G .k) (omega arith) (omega arith) (asc-nonzero (columnNumber G (Pg g)) (columnNumber G (Pg g)) (mul binary64 (rounded .two) (G .cq g)))))
+        let first = columnNumber G (Pg 0) in
+        let here = column-number G (Pg 0) in
+        zone-fit 0 (nvar G) (omega arith) (omega (arith, nvar-number G))
+        (zone-rows first (G .k) (first + G .k) _ (omega arith)
+        (λ g l.
+        let own = column-number G (Pg g) in
+        let inside = column-below G (Pg g) l in
+        zone-fit _ _ (omega arith) (omega arith) (zone-row (nvar G) (omega arith) (omega arith) (asc-nonzero (columnNumber G (Pg g)) (columnNumber G (Pg g)) (mul binary64 (rounded .two) (G .cq g))))))
 
     zone-head : (b : ℕ) → 1 ≤ b → Zone r c b dim 0 (nvar G) (quadratic G ++ map turned (everyRow G (plainRow G)))
     zone-head b one =

@@ -49,7 +49,7 @@ module _ {A : Type 0} where
       (λ i m. each-ext _ _ (points (blockAt bs b) i) (λ q o. same (key b i q) (record { item = m; place = o }))))
 
 -- w points or none
-several : (l : Bool) (w q : ℕ) → q < w * bit l → (l ≡ true) × (q < w)
+pub several : (l : Bool) (w q : ℕ) → q < w * bit l → (l ≡ true) × (q < w)
 several true w q h = (refl, omega arith)
 several false w q h = absurd (omega arith)
 

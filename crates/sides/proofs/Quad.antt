@@ -6,15 +6,15 @@ use native.Mathlib.Omega.{arith}
 use lib.Dec.{eqb}
 use lib.ListN.{length}
 use lib.Ieee.{Float, ne}
-use borrow.Author.Tests.{ne-eqb}
+use borrow.Author.Tests.{eq-eqb, ne-eqb}
 use Rattle.lists.specs.UpTo.{each, listed, when}
 use Rattle.lists.specs.Entries.{Cell, entry, select}
 use Rattle.lists.specs.Compressed.{joined, startsFrom}
-use Rattle.lists.proofs.Each.{each-ext, each-split, each-none, each-at-when, each-nil, when-nil}
+use Rattle.lists.proofs.Each.{each-ext, each-split, each-none, each-one, each-nil, when-nil}
 use Rattle.lists.proofs.Sums.{each-length, sum-ext}
 use Rattle.lists.proofs.Compressed.{joined-listed, joined-append, starts-length}
 use Rattle.numbering.specs.Layout.{layoutColumn, nvarOf}
-use Rattle.numbering.specs.Numbering.{nvar}
+use Rattle.numbering.specs.Numbering.{nvar, columnNumber}
 use Rattle.numbering.specs.Laid.{netOf, Laid}
 use Rattle.numbering.specs.declared.SocWrLayout.{SocWrLayout}
 use Rattle.numbering.specs.declared.ColumnName.the-variants.{Pg}
@@ -34,41 +34,78 @@ unfolding select oneCell
 select-one c r v = append-nil _
 
 module _ (l : SocWrLayout) (bytes : List ℕ) where
-  at-number : (c : ℕ) → select c (quadratic (netOf l bytes)) ≡ each (l .k) (λ g. when (ne (quadValue l bytes g) zero64) (when (eqb g c) (oneCell g (quadValue l bytes g))))
+  -- the column of pg g, by layout and by network
+  pub pg-number : (g : ℕ) → columnNumber (netOf l bytes) (Pg g) ≡ layoutColumn l (Pg 0) + g
+  pg-number g = omega (arith, column-number (netOf l bytes) (Pg g), layout-column l (Pg 0))
+
+  -- what generator g has in column c
+  abbrev part : ℕ → ℕ → List Cell
+  part c g = when (ne (quadValue l bytes g) zero64) (when (eqb (columnNumber (netOf l bytes) (Pg g)) c) (oneCell (columnNumber (netOf l bytes) (Pg g)) (quadValue l bytes g)))
+
+  at-number : (c : ℕ) → select c (quadratic (netOf l bytes)) ≡ each (l .k) (part c)
   unfolding quadratic
   at-number c =
       select-each c (l .k) _
       ∙ each-ext _ _ (l .k)
-      (λ g m. rw (column-number (netOf l bytes) (Pg g), select-when c (ne (quadValue l bytes g) zero64) (entry g g (quadValue l bytes g) ∷ []), select-one c g (quadValue l bytes g)))
+      (λ g m.
+      let p = columnNumber (netOf l bytes) (Pg g) in
+      rw (select-when c (ne (quadValue l bytes g) zero64) (entry p p (quadValue l bytes g) ∷ []), select-one c p (quadValue l bytes g)))
 
-  at-pg : (g : ℕ) → g < l .k → select g (quadratic (netOf l bytes)) ≡ quadCells l bytes g
+  at-pg : (g : ℕ) → g < l .k → select (layoutColumn l (Pg 0) + g) (quadratic (netOf l bytes)) ≡ quadCells l bytes g
   unfolding quadCells nonzeroCell
-  at-pg g m = rw (layout-column l (Pg g)) (at-number g ∙ each-at-when (λ g. ne (quadValue l bytes g) zero64) (λ g. oneCell g (quadValue l bytes g)) g (l .k) m)
+  at-pg g m =
+      let c = layoutColumn l (Pg 0) + g in
+      let own : columnNumber (netOf l bytes) (Pg g) ≡ layoutColumn l (Pg g) = omega (arith, column-number (netOf l bytes) (Pg g), layout-column l (Pg g)) in
+      at-number c
+      ∙ each-one (part c) g (l .k) m
+      (λ j h d. rw (ne-eqb (columnNumber (netOf l bytes) (Pg j)) c (λ e. d (omega (arith, pg-number j)))) (when-nil (ne (quadValue l bytes j) zero64)))
+      ∙ rw (eq-eqb (columnNumber (netOf l bytes) (Pg g)) c (pg-number g), own)
 
-  past-pg : (c : ℕ) → l .k ≤ c → select c (quadratic (netOf l bytes)) ≡ []
-  past-pg c h = at-number c ∙ each-none _ (l .k) (λ g m. rw (ne-eqb g c (λ e. omega arith)) (when-nil (ne (quadValue l bytes g) zero64)))
+  -- outside of pg there is nothing
+  no-pg : (c : ℕ) → ((g : ℕ) → g < l .k → layoutColumn l (Pg 0) + g ≡ c → ⊥) → select c (quadratic (netOf l bytes)) ≡ []
+  no-pg c h =
+      at-number c
+      ∙ each-none _ (l .k) (λ g m. rw (ne-eqb (columnNumber (netOf l bytes) (Pg g)) c (λ e. h g m (omega (arith, pg-number g)))) (when-nil (ne (quadValue l bytes g) zero64)))
 
   module _ (laid : Laid l bytes) where
-    -- the columns behind pg
+    -- the columns before pg, and behind it
+    abbrev before : ℕ
+    before = layoutColumn l (Pg 0)
+
     abbrev others : ℕ
     others = nvarOf l - layoutColumn l (Pg (l .k))
 
-    pub quad-parts : quadraticMatrix (netOf l bytes) ≡ listed (l .k) (quadCells l bytes) ++ listed others (λ c. [])
+    abbrev column : ℕ → List (List Cell)
+    column c = select c (quadratic (netOf l bytes)) ∷ []
+
+    pub quad-parts : quadraticMatrix (netOf l bytes) ≡ listed before (λ c. []) ++ listed (l .k) (quadCells l bytes) ++ listed others (λ c. [])
     unfolding quadraticMatrix
     quad-parts =
-        let e : nvar (netOf l bytes) ≡ l .k + others = omega (arith, laid-nvar l bytes laid, layout-nvar l, layout-column l (Pg (l .k))) in
-        ap (λ (n : ℕ). listed n (λ c. select c (quadratic (netOf l bytes)))) e
-        ∙ each-split (λ c. select c (quadratic (netOf l bytes)) ∷ []) (l .k) others
+        let first = layout-column l (Pg 0) in
+        let e : nvar (netOf l bytes) ≡ before + l .k + others = omega (arith, laid-nvar l bytes laid, layout-nvar l, layout-column l (Pg (l .k))) in
+        ap (λ (n : ℕ). each n column) e
+        ∙ each-split column (before + l .k) others
         ∙ rw (
-          each-ext (λ c. select c (quadratic (netOf l bytes)) ∷ []) (λ c. quadCells l bytes c ∷ []) (l .k) (λ g m. ap (λ (x : List Cell). x ∷ []) (at-pg g m)),
-          each-ext (λ c. select (l .k + c) (quadratic (netOf l bytes)) ∷ []) (λ c. [] ∷ []) others (λ c m. ap (λ (x : List Cell). x ∷ []) (past-pg (l .k + c) (omega arith))),
+          each-split column before (l .k),
+          each-ext column (λ c. [] ∷ []) before (λ c m. ap (λ (x : List Cell). x ∷ []) (no-pg c (λ g h q. omega arith))),
+          each-ext (λ g. column (before + g)) (λ g. quadCells l bytes g ∷ []) (l .k) (λ g m. ap (λ (x : List Cell). x ∷ []) (at-pg g m)),
+          each-ext (λ c. column (before + l .k + c)) (λ c. [] ∷ []) others (λ c m. ap (λ (x : List Cell). x ∷ []) (no-pg (before + l .k + c) (λ g h q. omega arith))),
         )
 
     pub quad-count : length (joined (quadraticMatrix (netOf l bytes))) ≡ quadCount l bytes (l .k)
     unfolding quadCount quadCells
     quad-count =
         ap (λ (x : List (List Cell)). length (joined x)) quad-parts
-        ∙ rw (joined-append (listed (l .k) (quadCells l bytes)) (listed others (λ c. [])), joined-listed, joined-listed, each-nil, append-nil)
+        ∙ rw (
+          joined-append (listed before (λ c. []) ++ listed (l .k) (quadCells l bytes)) (listed others (λ c. [])),
+          joined-append (listed before (λ c. [])) (listed (l .k) (quadCells l bytes)),
+          joined-listed before (λ c. []),
+          joined-listed (l .k) (quadCells l bytes),
+          joined-listed others (λ c. []),
+          each-nil before,
+          each-nil others,
+          append-nil,
+        )
         (each-length (l .k) (quadCells l bytes) ∙ sum-ext (l .k) _ _ (λ g m. nonzero-length _ (quadValue l bytes g)))
 
     pub quad-starts : length (startsFrom 0 (quadraticMatrix (netOf l bytes))) ≡ nvarOf l + 1

@@ -13,19 +13,20 @@ ghost use mathlib.Core.Path.{_≡_};
 ghost use Prim.Native.Nat.{_+_, _*_, _≤_, _<_};
 ghost use lib.ListN.{length};
 ghost use lib.Ieee.{neg};
-ghost use Rattle.lists.specs.UpTo.{each, listed, when, overlay};
+ghost use Rattle.lists.specs.UpTo.{listed, when, overlay};
 ghost use Rattle.records.specs.Fields.{interceptOf};
 ghost use Rattle.numbering.specs.Blocks.{key};
 ghost use Rattle.numbering.specs.Numbering.{rowOf};
-ghost use Rattle.numbering.specs.Layout.{layoutColumn, layoutRow, nvarOf, nconOf};
+ghost use Rattle.numbering.specs.Layout.{InRange, layoutColumn, nvarOf, nconOf};
 ghost use Rattle.numbering.specs.declared.ColumnName.the-variants.{Pg};
-ghost use Rattle.numbering.specs.declared.RowName.the-variants.{Pbal, Wub, Pgub, Angub, Anglb, Thermal};
+ghost use Rattle.numbering.specs.declared.RowName.the-variants.{Angub, Anglb};
 ghost use Rattle.numbering.specs.Laid.{netOf, Laid};
 ghost use Rattle.rows.specs.Rows.{b};
 ghost use Rattle.rows.specs.Program.{linear};
 ghost use Rattle.matrix.specs.Lists.{rightSide};
 ghost use Rattle.cells.specs.Filled.{Filled};
-ghost use Rattle.sides.specs.Sides.{BusBlock, GenBlock, FilledTwice, sideAt, balanceSides, voltageSides, generatorSides, angleSides, ratingSides, ratingsAt, linearCost};
+ghost use Rattle.sides.specs.Runs.{RunsOver};
+ghost use Rattle.sides.specs.Sides.{BusBlock, GenBlock, sideAt, ohmRuns, busRuns, generatorRuns, branchRuns, ratingSides, linearCost};
 
 pub mod quadratic;
 
@@ -88,7 +89,7 @@ fn angle_rhs(l: SocWrLayout, bytes: &[u8], e: usize) -> f64
 fn fill_buses(out: &mut [f64], l: SocWrLayout, bytes: &[u8])
     requires { ⌜ Laid l (now bytes) ⌝ }
     requires { ⌜ nconOf l ≤ length (now out) ⌝ }
-    ensures { λ _. ⌜ FilledTwice (balanceSides l (now (bytes .entry))) (voltageSides l (now (bytes .entry))) (now (out .entry)) (layoutRow l (Pbal 0)) (layoutRow l (Wub 0)) (now (out .exit)) ⌝ }
+    ensures { λ _. ⌜ RunsOver (busRuns l (now (bytes .entry))) (now (out .entry)) (now (out .exit)) ⌝ }
 {
     let n = l.n;
     let pbal = l.pbal_row(0) as usize;
@@ -109,7 +110,7 @@ fn fill_buses(out: &mut [f64], l: SocWrLayout, bytes: &[u8])
 fn fill_capabilities(out: &mut [f64], l: SocWrLayout, bytes: &[u8])
     requires { ⌜ Laid l (now bytes) ⌝ }
     requires { ⌜ nconOf l ≤ length (now out) ⌝ }
-    ensures { λ _. ⌜ Filled (generatorSides l (now (bytes .entry))) (now (out .entry)) (layoutRow l (Pgub 0)) (now (out .exit)) ⌝ }
+    ensures { λ _. ⌜ RunsOver (generatorRuns l (now (bytes .entry))) (now (out .entry)) (now (out .exit)) ⌝ }
 {
     let k = l.k;
     let pgub = l.pgub_row(0) as usize;
@@ -179,7 +180,7 @@ fn put_rating(out: &mut [f64], at: usize, on: bool, v: f64) -> usize
 fn fill_branches(out: &mut [f64], l: SocWrLayout, bytes: &[u8])
     requires { ⌜ Laid l (now bytes) ⌝ }
     requires { ⌜ nconOf l ≤ length (now out) ⌝ }
-    ensures { λ _. ⌜ FilledTwice (angleSides l (now (bytes .entry))) (each (l .m) (ratingsAt l (now (bytes .entry)))) (now (out .entry)) (layoutRow l (Angub 0)) (layoutRow l (Thermal 0 0)) (now (out .exit)) ⌝ }
+    ensures { λ _. ⌜ RunsOver (branchRuns l (now (bytes .entry))) (now (out .entry)) (now (out .exit)) ⌝ }
 {
     let m = l.m;
     let angub = l.angub_row(0) as usize;
@@ -198,22 +199,37 @@ fn fill_branches(out: &mut [f64], l: SocWrLayout, bytes: &[u8])
     }
 }
 
-// All of b. The Ohm rows and the branches' cones have zeros.
+// ohm_pf, ohm_qf, ohm_pt and ohm_qt: zeros.
+fn fill_ohms(out: &mut [f64], l: SocWrLayout)
+    requires { ⌜ InRange l ⌝ }
+    requires { ⌜ nconOf l ≤ length (now out) ⌝ }
+    ensures { λ _. ⌜ RunsOver (ohmRuns l) (now (out .entry)) (now (out .exit)) ⌝ }
+{
+    let pf = l.ohm_pf_row(0) as usize;
+    let qf = l.ohm_qf_row(0) as usize;
+    let pt = l.ohm_pt_row(0) as usize;
+    let qt = l.ohm_qt_row(0) as usize;
+    fill_all(out, pf, l.m, 0.0);
+    fill_all(out, qf, l.m, 0.0);
+    fill_all(out, pt, l.m, 0.0);
+    fill_all(out, qt, l.m, 0.0);
+}
+
+// All of b, block by block, each from its first row on.
 pub fn fill_b(out: &mut [f64], l: SocWrLayout, bytes: &[u8])
     requires { ⌜ Laid l (now bytes) ⌝ }
     requires { ⌜ nconOf l ≤ length (now out) ⌝ }
     ensures { λ _. ⌜ now (out .exit) ≡ overlay (rightSide (netOf l (now (bytes .entry)))) (now (out .entry)) ⌝ }
 {
-    let zeros = 4 * l.m;
     let segments = l.n + l.m + l.k;
-    let ohm = l.ohm_pf_row(0) as usize;
+    let cones = 4 * l.m;
     let cost = l.segment_row(0) as usize;
     let jabr = l.jabr_row(0, 0) as usize;
-    fill_all(out, ohm, zeros, 0.0);
     fill_buses(out, l, bytes);
+    fill_ohms(out, l);
     fill_capabilities(out, l, bytes);
     fill_intercepts(out, cost, bytes, segments, l.s);
-    fill_all(out, jabr, zeros, 0.0);
+    fill_all(out, jabr, cones, 0.0);
     fill_branches(out, l, bytes);
 }
 
@@ -232,15 +248,15 @@ fn fill_costs(out: &mut [f64], l: SocWrLayout, bytes: &[u8])
     }
 }
 
-// All of q. The columns behind those of pg have zeros, up to the first of cost.
+// All of q: zeros, then the cost of each pg, and 1 at each cost column.
 pub fn fill_q(out: &mut [f64], l: SocWrLayout, bytes: &[u8])
     requires { ⌜ Laid l (now bytes) ⌝ }
     requires { ⌜ nvarOf l ≤ length (now out) ⌝ }
     ensures { λ _. ⌜ now (out .exit) ≡ overlay (linear (netOf l (now (bytes .entry)))) (now (out .entry)) ⌝ }
 {
-    let behind = l.pg_column(l.k) as usize;
+    let all = l.column_count() as usize;
     let cost = l.cost_column(0) as usize;
+    fill_all(out, 0, all, 0.0);
     fill_costs(out, l, bytes);
-    fill_all(out, behind, cost - behind, 0.0);
     fill_all(out, cost, l.cost_columns, 0.0 + 1.0);
 }

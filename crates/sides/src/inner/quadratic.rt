@@ -67,7 +67,7 @@ fn put_empty(starts: &mut [u32], c: usize, count: usize, at: u32)
     }
 }
 
-// All of P.
+// All of P: the columns before those of pg, and behind them, are empty.
 pub fn fill_p(
     starts: &mut [u32],
     rows: &mut [u32],
@@ -78,9 +78,11 @@ pub fn fill_p(
     requires { ⌜ Laid l (now bytes) ⌝ }
     ensures { λ x. ⌜ Whole (quadraticMatrix (netOf l (now (bytes .entry)))) (now (starts .entry)) (now (rows .entry)) (now (vals .entry)) (now (starts .exit)) (now (rows .exit)) (now (vals .exit)) x ⌝ }
 {
+    let pg = l.pg_column(0) as usize;
     let behind = l.pg_column(l.k) as usize;
     let others = l.column_count() as usize - behind;
     store_u32(starts, 0, 0);
+    put_empty(starts, 0, pg, 0);
     let next = put_quads(starts, rows, vals, l, bytes);
     put_empty(starts, behind, others, next as u32);
     next

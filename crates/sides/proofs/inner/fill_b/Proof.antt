@@ -1,82 +1,95 @@
--- `sides::inner::fill_b` meets its contract: the parts are those of b, and each is filled where the lengths of those before it end. Assumes nothing.
+-- `sides::inner::fill_b` meets its contract: it writes every block's run, and these are b. Assumes nothing.
+use Prim.Native.Nat.{_≤_}
 use mathlib.Core.Path.{_∙_}
 use native.Mathlib.Omega.{arith}
+use lib.ListN.{length}
 use denote.Ref.{now}
-use Rattle.lists.specs.UpTo.{each}
-use Rattle.lists.proofs.Written.{overlaid}
-use Rattle.numbering.specs.declared.RowName.the-variants.{Pbal, OhmPf, Wub, Pgub, Angub, Segment, Jabr, Thermal}
+use Rattle.numbering.specs.Layout.{nconOf}
+use Rattle.numbering.specs.declared.RowName.the-variants.{Segment, Jabr}
 use Rattle.numbering.proofs.Numbers.{layout-row, layout-ncon}
 use Rattle.cells.proofs.Fills.{kept-length}
-use Rattle.sides.specs.Sides.{balanceSides, zeroSides, voltageSides, generatorSides, angleSides, interceptSides, ratingsAt}
-use Rattle.sides.proofs.RightSide.{right-parts, right-length, balances-length, zeros-length, voltages-length, generators-length, angles-length, intercepts-length}
-use Rattle.sides.proofs.Twice.{twice-length, assembled}
+use Rattle.sides.specs.Sides.{zeroRun, segmentRun}
+use Rattle.sides.proofs.Runs.{one-run, _thenRuns_, runs-length}
+use Rattle.sides.proofs.RightSide.{right-runs}
 use borrow.Author.Needs.{needs}
 use Rattle.sides.proofs.inner.fill_b.Statement.{statement}
 use Rattle.sides.proofs.inner.fill_b.Tie as tie
 
-fill-all-requires : tie.Need-fill-all-requires
-fill-all-requires c κs =
-    let s = c .before .before .before .before .before .before .before .before .before in
-    omega (arith, s .pre .1, c .before .before .before .ohm-pf-row .ensures, layout-row (s .args .l) (OhmPf 0), layout-ncon (s .args .l))
+fill-ohms-requires : tie.Need-fill-ohms-requires
+fill-ohms-requires c κs =
+    let buses = c .before .before .before in
+    let start = buses .before .before .before .before .before .before .before .before .before in
+    (start .pre .0 .range, omega (arith, start .pre .1, runs-length (buses .fill-buses .ensures)))
+
+fill-capabilities-requires : tie.Need-fill-capabilities-requires
+fill-capabilities-requires c κs =
+    let ohms = c .before .before .before in
+    let buses = ohms .before .before .before .before in
+    let start = buses .before .before .before .before .before .before .before .before .before in
+    (start .pre .0, omega (arith, start .pre .1, runs-length (buses .fill-buses .ensures), runs-length (ohms .fill-ohms .ensures)))
 
 fill-intercepts-requires : tie.Need-fill-intercepts-requires
 fill-intercepts-requires c κs =
-    let s = c .before .before .before .before .before .before .before .before .before .before .before .before .before .before .before .before .before .before .before .before .before in
-    let l = s .args .l in
-    let h = s .pre in
-    let x = kept-length (c .before .before .before .before .before .before .before .before .before .before .before .fill-all .ensures) in
-    let y = twice-length (c .before .before .before .before .before .before .before .fill-buses .ensures) in
-    let z = kept-length (c .before .before .before .fill-capabilities .ensures) in
-    (rw (h .0 .accepted .size) (omega arith), omega (arith, h .1, x, y, z, c .before .before .before .before .before .before .before .before .before .before .before .before .before .before .segment-row .ensures, layout-row l (Segment 0 0), layout-ncon l))
+    let capabilities = c .before .before .before in
+    let ohms = capabilities .before .before .before .before in
+    let buses = ohms .before .before .before .before in
+    let segments = buses .before .before .before in
+    let start = segments .before .before .before .before .before .before in
+    let l = start .args .l in
+    let first = segments .segment-row .ensures in
+    let x = runs-length (buses .fill-buses .ensures) in
+    let y = runs-length (ohms .fill-ohms .ensures) in
+    let z = runs-length (capabilities .fill-capabilities .ensures) in
+    (rw (start .pre .0 .accepted .size) (omega arith), omega (arith, start .pre .1, first, layout-row l (Segment 0 0), layout-ncon l))
 
-fill-all-requires-2 : tie.Need-fill-all-requires-2
-fill-all-requires-2 c κs =
-    let s = c .before .before .before .before .before .before .before .before .before .before .before .before .before .before .before .before .before .before .before .before .before .before .before .before .before in
-    let l = s .args .l in
-    let w = kept-length (c .before .before .before .before .before .before .before .before .before .before .before .before .before .before .before .fill-all .ensures) in
-    let x = twice-length (c .before .before .before .before .before .before .before .before .before .before .before .fill-buses .ensures) in
-    let y = kept-length (c .before .before .before .before .before .before .before .fill-capabilities .ensures) in
-    let z = kept-length (c .before .before .before .fill-intercepts .ensures) in
-    omega (arith, s .pre .1, w, x, y, z, c .before .before .before .before .before .before .before .before .before .before .before .before .before .before .before .before .before .jabr-row .ensures, layout-row l (Jabr 0 0), layout-ncon l)
+fill-all-requires : tie.Need-fill-all-requires
+fill-all-requires c κs =
+    let intercepts = c .before .before .before in
+    let capabilities = intercepts .before .before .before .before in
+    let ohms = capabilities .before .before .before .before in
+    let buses = ohms .before .before .before .before in
+    let jabr = buses .before .before in
+    let start = jabr .before .before .before .before .before .before .before in
+    let l = start .args .l in
+    let first = jabr .jabr-row .ensures in
+    let w = runs-length (buses .fill-buses .ensures) in
+    let x = runs-length (ohms .fill-ohms .ensures) in
+    let y = runs-length (capabilities .fill-capabilities .ensures) in
+    let z = kept-length (intercepts .fill-intercepts .ensures) in
+    omega (arith, start .pre .1, first, layout-row l (Jabr 0 0), layout-ncon l)
 
 fill-branches-requires : tie.Need-fill-branches-requires
 fill-branches-requires c κs =
-    let s = c .before .before .before .before .before .before .before .before .before .before .before .before .before .before .before .before .before .before .before .before .before .before .before .before .before .before .before .before .before in
-    let v = kept-length (c .before .before .before .before .before .before .before .before .before .before .before .before .before .before .before .before .before .before .before .fill-all .ensures) in
-    let w = twice-length (c .before .before .before .before .before .before .before .before .before .before .before .before .before .before .before .fill-buses .ensures) in
-    let x = kept-length (c .before .before .before .before .before .before .before .before .before .before .before .fill-capabilities .ensures) in
-    let y = kept-length (c .before .before .before .before .before .before .before .fill-intercepts .ensures) in
-    let z = kept-length (c .before .before .before .fill-all2 .ensures) in
-    (s .pre .0, omega (arith, s .pre .1, v, w, x, y, z))
+    let cones = c .before .before .before in
+    let intercepts = cones .before .before .before .before in
+    let capabilities = intercepts .before .before .before .before in
+    let ohms = capabilities .before .before .before .before in
+    let buses = ohms .before .before .before .before in
+    let start = buses .before .before .before .before .before .before .before .before .before in
+    let v = runs-length (buses .fill-buses .ensures) in
+    let w = runs-length (ohms .fill-ohms .ensures) in
+    let x = runs-length (capabilities .fill-capabilities .ensures) in
+    let y = kept-length (intercepts .fill-intercepts .ensures) in
+    let z = kept-length (cones .fill-all .ensures) in
+    (start .pre .0, omega (arith, start .pre .1))
 
 returns : tie.Need-returns
-unfolding zeroSides interceptSides
+unfolding zeroRun segmentRun
 returns c =
-    let s = c .before .before .before .before .before .before .before .before .before .before .before .before .before .before .before .before .before .before .before .before .before .before .before .before .before .before .before .before .before .before .before .before in
-    let l = s .args .l in
-    let b = now (s .args .bytes) in
-    let r = s .pre .0 in
-    let x = balances-length l b r in
-    let z = zeros-length l b r in
-    let v = voltages-length l b r in
-    let g = generators-length l b r in
-    let a = angles-length l b r in
-    let i = intercepts-length l b r in
-    let p₁ = c .before .before .before .before .before .before .before .before .before .before .before .before .before .before .before .before .before .before .before .before .before .before .before .before .before .before .ohm-pf-row .ensures ∙ layout-row l (OhmPf 0) in
-    let p₂ = layout-row l (Wub 0) in
-    let p₃ = layout-row l (Pgub 0) in
-    let p₄ = layout-row l (Angub 0) in
-    let p₅ = c .before .before .before .before .before .before .before .before .before .before .before .before .before .before .before .before .before .before .before .before .before .before .before .before .before .segment-row .ensures ∙ layout-row l (Segment 0 0) in
-    let p₆ = c .before .before .before .before .before .before .before .before .before .before .before .before .before .before .before .before .before .before .before .before .before .before .before .before .jabr-row .ensures ∙ layout-row l (Jabr 0 0) in
-    let p₇ = layout-row l (Thermal 0 0) in
-    let f = rw (layout-row l (Pbal 0)) at (c .before .before .before .before .before .before .before .before .before .before .before .before .before .before .before .before .before .before .fill-buses .ensures) in
-    let w =
-    assembled (balanceSides l b) (zeroSides l) (voltageSides l b) (generatorSides l b) (angleSides l b) (interceptSides l b) (zeroSides l) (each (l .m) (ratingsAt l b))
-    (c .before .before .before .before .before .before .before .before .before .before .before .before .before .before .before .before .before .before .before .before .before .before .fill-all .ensures) f (c .before .before .before .before .before .before .before .before .before .before .before .before .before .before .fill-capabilities .ensures) (c .before .before .before .before .before .before .before .before .before .before .fill-intercepts .ensures) (c .before .before .before .before .before .before .fill-all2 .ensures) (c .before .before .fill-branches .ensures)
-    (omega arith) (omega arith) (omega arith) (omega arith) (omega arith) (omega arith) (omega arith) in
-    let e = right-parts l b r in
-    let h = right-length l b r in
-    w .is ∙ rw (← e) (overlaid _ _ (omega (arith, s .pre .1)))
+    let branches = c .before .before in
+    let cones = branches .before .before .before .before in
+    let intercepts = cones .before .before .before .before in
+    let capabilities = intercepts .before .before .before .before in
+    let ohms = capabilities .before .before .before .before in
+    let buses = ohms .before .before .before .before in
+    let jabr = buses .before .before in
+    let segments = jabr .before in
+    let start = segments .before .before .before .before .before .before in
+    let l = start .args .l in
+    right-runs l (now (start .args .bytes)) (start .pre .0) _ (start .pre .1)
+    (buses .fill-buses .ensures thenRuns ohms .fill-ohms .ensures thenRuns capabilities .fill-capabilities .ensures
+    thenRuns one-run (rw (segments .segment-row .ensures) at (intercepts .fill-intercepts .ensures)) thenRuns one-run (rw (jabr .jabr-row .ensures) at (cones .fill-all .ensures))
+    thenRuns branches .fill-branches .ensures)
 
 pub fill-b-spec : {M : Type 1} → statement M
-fill-b-spec = tie.close (tie.spec (λ c. search needs) (λ c. search needs) (λ c. search needs) (λ c κs. search needs) (λ c. search needs) (λ c κs. search needs) (λ c. search needs) (λ c κs. search needs) (λ c. search needs) fill-all-requires (λ c κs. search needs) (λ c κs. search needs) fill-intercepts-requires fill-all-requires-2 fill-branches-requires (λ c. search needs) returns)
+fill-b-spec = tie.close (tie.spec (λ c. search needs) (λ c. search needs) (λ c. search needs) (λ c κs. search needs) (λ c. search needs) (λ c κs. search needs) (λ c. search needs) (λ c κs. search needs) fill-ohms-requires fill-capabilities-requires fill-intercepts-requires fill-all-requires fill-branches-requires (λ c. search needs) returns)

@@ -10,16 +10,16 @@ use Rattle.lists.proofs.Each.{each-more}
 use Rattle.numbering.specs.declared.RowName.the-variants.{Angub, Anglb, Thermal}
 use Rattle.numbering.proofs.Numbers.{layout-row, layout-ncon}
 use Rattle.cells.specs.Filled.{Filled}
-use Rattle.sides.specs.Sides.{sideAt, angleSides, ratingSides, ratingsAt}
+use Rattle.sides.specs.Sides.{sideAt, blockRun, ratingSides, ratingsAt, thermalRun}
 use Rattle.sides.proofs.Ratings.{ratings-room}
-use Rattle.sides.proofs.Twice.{Behind, behind-none, behind-more, behind-length, behind-all}
+use Rattle.sides.proofs.Behind.{Behind, behind-none, behind-more, behind-length, behind-all}
 use Rattle.sides.proofs.inner.fill_branches.Statement.{statement}
 use Rattle.sides.proofs.inner.fill_branches.Tie as tie
 
 abbrev Inv-loop : tie.InvT-loop
 Inv-loop out₀ l bytes m angub anglb next₀ e₀ out next e =
-    (e ≤ m) × (m ≡ l .m) × ((anglb ≡ angub + m) × (anglb + m ≤ next₀) × (next₀ + 6 * l .t ≤ length out₀))
-    × Behind m e (sideAt l bytes Angub) (sideAt l bytes Anglb) (ratingsAt l bytes) angub next₀ out₀ out
+    (e ≤ m) × (m ≡ l .m) × ((angub + m ≤ anglb) × (anglb + m ≤ next₀) × (next₀ + 6 * l .t ≤ length out₀))
+    × Behind m e (sideAt l bytes Angub) (sideAt l bytes Anglb) (ratingsAt l bytes) angub anglb next₀ out₀ out
     × (next ≡ next₀ + length (each e (ratingsAt l bytes)))
 
 abbrev μ-loop : tie.MeasureT-loop
@@ -33,7 +33,7 @@ loop-holds c =
     let q = layout-row l (Anglb 0) in
     let t = layout-row l (Thermal 0 0) in
     let e = layout-ncon l in
-    (omega arith, refl, (omega arith, omega arith, omega arith), behind-none _ _ _ _, omega arith)
+    (omega arith, refl, (omega arith, omega arith, omega arith), behind-none _ _ _ _ (omega arith), omega arith)
 
 slice-write-out : tie.Need-slice-write-out Inv-loop μ-loop
 slice-write-out c = omega (arith, behind-length (c .before .before .before .before .before .loop .inv .3))
@@ -65,7 +65,7 @@ loop-again c =
       omega arith,
       o .1,
       o .2,
-      behind-more (g Angub) (g Anglb) f (o .3) (omega arith) (omega arith) (o .2 .0) (v .0) (v .1) (o .4) x,
+      behind-more (g Angub) (g Anglb) f (o .3) (omega arith) (o .2 .0) (o .2 .1) (v .0) (v .1) (o .4) x,
       w .1 ∙ omega (arith, ap length h, o .4, ap length (each-more f e), length-append (each e f) (f e)),
     )
 
@@ -73,12 +73,13 @@ same-length : tie.Need-same-length Inv-loop μ-loop
 same-length c = behind-length (c .before .loop .inv .3)
 
 returns : tie.Need-returns Inv-loop μ-loop
-unfolding angleSides
+unfolding blockRun thermalRun
 returns c =
-    let a = c .before .before .before .before .before .before .before .args in
     let o = c .before .loop .inv in
-    let g = sideAt (a .l) (now (a .bytes)) in
-    rw (← c .before .before .before .before .angub-row .ensures, ← c .before .before .thermal-row .ensures) (behind-all (g Angub) (g Anglb) (ratingsAt (a .l) (now (a .bytes))) (omega arith) (rw (o .1) at (o .3)))
+    let thermal = c .before .before in
+    let anglb = thermal .before in
+    let angub = anglb .before in
+    rw (← angub .angub-row .ensures, ← anglb .anglb-row .ensures, ← thermal .thermal-row .ensures, ← o .1) (behind-all _ _ _ (omega arith) (o .3))
 
 pub fill-branches-spec : {M : Type 1} → statement M
 fill-branches-spec = tie.close (tie.spec Inv-loop μ-loop (λ c κs. search needs) (λ c. search needs) (λ c κs. search needs) (λ c. search needs) (λ c κs. search needs) (λ c. search needs) loop-holds (λ c. search needs) (λ c κs. search needs) (λ c κs. search needs) (λ c κs. search needs) (λ c. search needs) (λ c. search needs) slice-write-out (λ c. search needs) (λ c. search needs) slice-write-out-2 put-rating-requires (λ c. search needs) (λ c. search needs) loop-again same-length returns)
