@@ -1,4 +1,3 @@
-pub mod EveryPoint
 pub mod Shaped
 pub mod Cuts
 pub mod Same

@@ -60,6 +60,7 @@ module _ (l : SocWrLayout) (bytes : List ℕ) (laid : Laid l bytes) where
     where
       c : ℕ → ℕ
       c g = bit (G .piecewise g)
+
       here : (g q : ℕ) → g < l .k → q < c g → cost (layoutColumn l (CostOf 0) + (sum g c + q)) ≡ unit
       here g q h o =
           let on = several (G .piecewise g) 1 q (omega arith) in

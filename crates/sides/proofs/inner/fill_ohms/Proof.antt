@@ -1,6 +1,8 @@
 -- `sides::inner::fill_ohms` meets its contract: a run of zeros for each block, which ends among all rows. Assumes nothing.
-use mathlib.Core.Path.{_∙_}
+use Prim.Native.Nat.{_+_, _≤_}
 use native.Mathlib.Omega.{arith}
+use Rattle.numbering.specs.Layout.{layoutRow, nconOf}
+use Rattle.numbering.specs.declared.SocWrLayout.{SocWrLayout}
 use Rattle.numbering.specs.declared.RowName.the-variants.{OhmPf, OhmQf, OhmPt, OhmQt}
 use Rattle.numbering.proofs.Numbers.{layout-row, layout-ncon}
 use Rattle.cells.proofs.Fills.{kept-length}
@@ -10,26 +12,31 @@ use borrow.Author.Needs.{needs}
 use Rattle.sides.proofs.inner.fill_ohms.Statement.{statement}
 use Rattle.sides.proofs.inner.fill_ohms.Tie as tie
 
+-- each block ends among all rows
+ends-inside : (l : SocWrLayout) → (layoutRow l (OhmPf 0) + l .m ≤ nconOf l) × (layoutRow l (OhmQf 0) + l .m ≤ nconOf l) × (layoutRow l (OhmPt 0) + l .m ≤ nconOf l)
+    × (layoutRow l (OhmQt 0) + l .m ≤ nconOf l)
+ends-inside l = simp (layout-row l, layout-ncon l) (omega arith, omega arith, omega arith, omega arith)
+
 fill-all-requires : tie.Need-fill-all-requires
 fill-all-requires c κs =
     let start = c .before .before .before .before .before .before in
-    let l = start .args .l in
-    omega (arith, start .pre .1, layout-row l (OhmPf 0), layout-ncon l)
+    let ends = ends-inside (start .args .l) in
+    omega (arith, start .pre .1)
 
 fill-all-requires-2 : tie.Need-fill-all-requires-2
 fill-all-requires-2 c κs =
     let pf = c .before .before .before in
     let start = pf .before .before .before .before .before .before .before in
-    let l = start .args .l in
-    omega (arith, start .pre .1, kept-length (pf .fill-all .ensures), layout-row l (OhmQf 0), layout-ncon l)
+    let ends = ends-inside (start .args .l) in
+    omega (arith, start .pre .1, kept-length (pf .fill-all .ensures))
 
 fill-all-requires-3 : tie.Need-fill-all-requires-3
 fill-all-requires-3 c κs =
     let qf = c .before .before .before in
     let pf = qf .before .before .before .before in
     let start = pf .before .before .before .before .before .before .before in
-    let l = start .args .l in
-    omega (arith, start .pre .1, kept-length (pf .fill-all .ensures), kept-length (qf .fill-all2 .ensures), layout-row l (OhmPt 0), layout-ncon l)
+    let ends = ends-inside (start .args .l) in
+    omega (arith, start .pre .1, kept-length (pf .fill-all .ensures), kept-length (qf .fill-all2 .ensures))
 
 fill-all-requires-4 : tie.Need-fill-all-requires-4
 fill-all-requires-4 c κs =
@@ -37,8 +44,8 @@ fill-all-requires-4 c κs =
     let qf = pt .before .before .before .before in
     let pf = qf .before .before .before .before in
     let start = pf .before .before .before .before .before .before .before in
-    let l = start .args .l in
-    omega (arith, start .pre .1, kept-length (pf .fill-all .ensures), kept-length (qf .fill-all2 .ensures), kept-length (pt .fill-all3 .ensures), layout-row l (OhmQt 0), layout-ncon l)
+    let ends = ends-inside (start .args .l) in
+    omega (arith, start .pre .1, kept-length (pf .fill-all .ensures), kept-length (qf .fill-all2 .ensures), kept-length (pt .fill-all3 .ensures))
 
 returns : tie.Need-returns
 unfolding zeroRun
