@@ -17,7 +17,7 @@ use Rattle.lists.proofs.Zones.{Zone, zone-nil, _next_, zone-fit, zone-each, zon
 use Rattle.ring.specs.Ops.{rounded}
 use Rattle.records.specs.AcNetwork.{AcNetwork}
 use Rattle.numbering.specs.Numbering.{nvar, ncon, nEq, columnKey, columnNumber, rowNumber}
-use Rattle.numbering.proofs.Numbers.{column-number, row-number, nvar-number, ncon-number, numbers, HasColumn, column-below, column-rises, row-below}
+use Rattle.numbering.proofs.Numbers.{column-number, row-number, ncon-number, numbers, HasColumn, column-below, column-rises, row-below}
 use Rattle.rows.specs.Rows.{Coefficient, Constant, constant, constant64, minusOne, minusHalf, half, Cell, cell, plain, hits, single, ends, cells, terms}
 use Rattle.rows.specs.Rows as Rows
 use Rattle.rows.specs.Program.{equalities, inequalities, thermalFrom, thermalTo, secondOrder, everyRow, quadratic}
@@ -237,21 +237,25 @@ module _ (G : AcNetwork Float) (sound : Sound G) where
         (λ e he q. zone-rows _ 3 _ (λ l. plainRow G (thermalFrom e l)) (omega arith) (λ l hl. let at = thermal-at e l in zone-fit _ _ (omega arith) (omega arith) (row (thermalFrom e l) (up-thermal e l he))))
         (λ e he q. zone-rows _ 3 _ (λ l. plainRow G (thermalTo e l)) (omega arith) (λ l hl. let at = thermal-at e (3 + l) in zone-fit _ _ (omega arith) (omega arith) (row (thermalTo e l) (up-thermal e (3 + l) he))))
 
-    zone-quadratic : Zone r c 1 (G .k) 0 (G .k) (quadratic G)
+    -- P's entries are on the diagonal, at the pg columns, wherever these stand
+    zone-quadratic : Zone r c 1 (nvar G) 0 (nvar G) (quadratic G)
     unfolding quadratic
     zone-quadratic =
-        zone-rows 0 (G .k) (G .k) _ (omega arith)
-        (λ g l. let here = column-number G (Pg g) in zone-fit _ _ (omega arith) (omega arith) (zone-row (G .k) (omega arith) (omega arith) (asc-nonzero (columnNumber G (Pg g)) (columnNumber G (Pg g)) (mul binary64 (rounded .two) (G .cq g)))))
+        let all : columnNumber G (Pg 0) + G .k ≤ nvar G = simp numbers (omega arith) in
+        zone-fit 0 (nvar G) (omega arith) (omega arith)
+        (zone-rows (columnNumber G (Pg 0)) (G .k) (nvar G) _ all
+        (λ g l.
+        let here : columnNumber G (Pg g) ≡ columnNumber G (Pg 0) + g = simp numbers (omega arith) in
+        zone-fit _ _ (omega arith) (omega arith) (zone-row (nvar G) (omega arith) (omega arith) (asc-nonzero (columnNumber G (Pg g)) (columnNumber G (Pg g)) (mul binary64 (rounded .two) (G .cq g))))))
 
     zone-head : (b : ℕ) → 1 ≤ b → Zone r c b dim 0 (nvar G) (quadratic G ++ map turned (everyRow G (plainRow G)))
     zone-head b one =
         let sum2 = times-append r c (quadratic G) (map turned (everyRow G (plainRow G))) in
         let t = times-turned r c (everyRow G (plainRow G)) in
-        let columns = nvar-number G in
         record {
           order = omega arith;
           under = λ l. omega arith;
-          over = λ l. omega (arith, sum2, t, zone-quadratic .over (omega arith), zone-program .wide l);
+          over = λ l. omega (arith, sum2, t, zone-quadratic .over l, zone-program .wide l);
           wide = λ l. omega (arith, sum2, t, zone-quadratic .wide (omega arith), zone-program .over l);
           few = elim (decLt c (nvar G)) [
             | yes l ↦ omega (arith, sum2, t, zone-quadratic .few, zone-program .under l)
