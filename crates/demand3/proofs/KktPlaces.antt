@@ -207,9 +207,9 @@ module _ (G : AcNetwork Float) (sound : Sound G) where
 
     zone-second : Zone r c b w (nvar G + cones G) dim (secondOrder G h)
     zone-second =
-        zone-fit (nvar G + cones G) (nvar G + first 0) (omega arith) (simp numbers (omega arith))
+        zone-fit (nvar G + cones G) (nvar G + (cones G + 4 * G .m)) (omega arith) (omega arith)
         (zone-each (λ e. nvar G + cones G + 4 * e) (G .m) (λ e. h 4 (Jabr e)) (λ e he. zone-fit _ _ (omega arith) (omega arith) (four e he)))
-        next zone-fit (nvar G + first 0) dim (omega arith) (simp numbers (omega arith))
+        next zone-fit _ dim (simp numbers (omega arith)) (simp numbers (omega arith))
         (zone-each (λ e. nvar G + first e) (G .m) (λ e. when (G .limited e) (h 3 (thermalFrom e) ++ h 3 (thermalTo e))) (λ e he. thermal e he (G .limited e) refl))
 
   -- ---- the whole list
