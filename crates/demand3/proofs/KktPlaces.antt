@@ -16,8 +16,8 @@ use Rattle.lists.proofs.Ascending.{Asc, asc-join, times-append, times-turned}
 use Rattle.lists.proofs.Zones.{Zone, zone-nil, _next_, zone-fit, zone-each, zone-rows, zone-row}
 use Rattle.ring.specs.Ops.{rounded}
 use Rattle.records.specs.AcNetwork.{AcNetwork}
-use Rattle.numbering.specs.Numbering.{nvar, ncon, columnKey, columnNumber, rowNumber}
-use Rattle.numbering.proofs.Numbers.{column-number, row-number, nvar-number, ncon-number, numbers, HasColumn, column-below, column-rises, row-below}
+use Rattle.numbering.specs.Numbering.{nvar, ncon, nEq, columnKey, columnNumber, rowNumber}
+use Rattle.numbering.proofs.Numbers.{column-number, row-number, ncon-number, numbers, HasColumn, column-below, column-rises, row-below}
 use Rattle.rows.specs.Rows.{Coefficient, Constant, constant, constant64, minusOne, minusHalf, half, Cell, cell, plain, hits, single, ends, cells, terms}
 use Rattle.rows.specs.Rows as Rows
 use Rattle.rows.specs.Program.{equalities, inequalities, thermalFrom, thermalTo, secondOrder, everyRow, quadratic}
@@ -130,41 +130,45 @@ module _ (G : AcNetwork Float) (sound : Sound G) where
         zone-rows (kktRow G (name 0)) n (nvar G + e) (λ i. f (name i)) (omega arith)
         (λ i l. zone-fit _ _ (omega (arith, num i)) (omega (arith, num i)) (row (name i) (omega (arith, num i)) (up i l)))
 
-    -- the rows of a block of the table, to those of the next
-    to : (name after : ℕ → RowName) (n : ℕ) → ((i : ℕ) → rowNumber G (name i) ≡ rowNumber G (name 0) + i) → ((i : ℕ) → i < n → Rises (cells rounded G (name i)))
-        → rowNumber G (name 0) + n ≤ rowNumber G (after 0) → rowNumber G (after 0) ≤ cones G → Zone r c b w (kktRow G (name 0)) (kktRow G (after 0)) (each n (λ i. f (name i)))
-    to name after n = block name n (rowNumber G (after 0))
+    -- the rows of a block of the table, from where those before it end, at row s, to where its own end: whichever blocks stand beside it
+    rows : {s : ℕ} (name : ℕ → RowName) (n : ℕ) → ((i : ℕ) → rowNumber G (name i) ≡ rowNumber G (name 0) + i) → ((i : ℕ) → i < n → Rises (cells rounded G (name i)))
+        → s ≤ rowNumber G (name 0) → rowNumber G (name n) ≤ cones G → Zone r c b w (nvar G + s) (kktRow G (name n)) (each n (λ i. f (name i)))
+    rows name n num up h top =
+        let end = num n in
+        zone-fit _ _ (omega arith) (omega arith) (block name n (rowNumber G (name n)) num up (omega arith) top)
 
-    zone-equalities : Zone r c b w (kktRow G (Pbal 0)) (kktRow G (Wub 0)) (equalities G f)
+    zone-equalities : Zone r c b w (nvar G) (nvar G + nEq G) (equalities G f)
     zone-equalities =
-        to Pbal Qbal (G .n) (λ i. simp numbers (omega arith)) up-pbal (simp numbers (omega arith)) (simp numbers (omega arith))
-        next to Qbal OhmPf (G .n) (λ i. simp numbers (omega arith)) up-qbal (simp numbers (omega arith)) (simp numbers (omega arith))
-        next to OhmPf OhmQf (G .m) (λ e. simp numbers (omega arith)) (λ e l. up-ohm (G .from e) e (Pf e) (sound .fromBus e l) l l (omega arith)) (simp numbers (omega arith)) (simp numbers (omega arith))
-        next to OhmQf OhmPt (G .m) (λ e. simp numbers (omega arith)) (λ e l. up-ohm (G .from e) e (Qf e) (sound .fromBus e l) l l (omega arith)) (simp numbers (omega arith)) (simp numbers (omega arith))
-        next to OhmPt OhmQt (G .m) (λ e. simp numbers (omega arith)) (λ e l. up-ohm (G .to e) e (Pt e) (sound .toBus e l) l l (omega arith)) (simp numbers (omega arith)) (simp numbers (omega arith))
-        next to OhmQt Wub (G .m) (λ e. simp numbers (omega arith)) (λ e l. up-ohm (G .to e) e (Qt e) (sound .toBus e l) l l (omega arith)) (simp numbers (omega arith)) (simp numbers (omega arith))
+        zone-fit (nvar G) (nvar G + nEq G) (omega arith) (simp numbers (omega arith))
+        (rows {s = 0} Pbal (G .n) (λ i. simp numbers (omega arith)) up-pbal (omega arith) (simp numbers (omega arith))
+        next rows Qbal (G .n) (λ i. simp numbers (omega arith)) up-qbal (simp numbers (omega arith)) (simp numbers (omega arith))
+        next rows OhmPf (G .m) (λ e. simp numbers (omega arith)) (λ e l. up-ohm (G .from e) e (Pf e) (sound .fromBus e l) l l (omega arith)) (simp numbers (omega arith)) (simp numbers (omega arith))
+        next rows OhmQf (G .m) (λ e. simp numbers (omega arith)) (λ e l. up-ohm (G .from e) e (Qf e) (sound .fromBus e l) l l (omega arith)) (simp numbers (omega arith)) (simp numbers (omega arith))
+        next rows OhmPt (G .m) (λ e. simp numbers (omega arith)) (λ e l. up-ohm (G .to e) e (Pt e) (sound .toBus e l) l l (omega arith)) (simp numbers (omega arith)) (simp numbers (omega arith))
+        next rows OhmQt (G .m) (λ e. simp numbers (omega arith)) (λ e l. up-ohm (G .to e) e (Qt e) (sound .toBus e l) l l (omega arith)) (simp numbers (omega arith)) (simp numbers (omega arith)))
 
-    zone-costs : Zone r c b w (kktRow G (Segment 0 0)) (nvar G + cones G) (each (G .k) (λ g. each (G .segments g) (λ t. f (Segment g t))))
-    zone-costs =
-        zone-fit _ _ (omega arith) (simp numbers (omega arith))
+    -- the same for the generators' segments
+    zone-costs : {s : ℕ} → s ≤ rowNumber G (Segment 0 0) → Zone r c b w (nvar G + s) (kktRow G (Segment (G .k) 0)) (each (G .k) (λ g. each (G .segments g) (λ t. f (Segment g t))))
+    zone-costs h =
+        zone-fit _ _ (omega arith) (omega arith)
         (zone-each (λ g. kktRow G (Segment g 0)) (G .k) (λ g. each (G .segments g) (λ t. f (Segment g t)))
         (λ g hg. block (Segment g) (G .segments g) (rowNumber G (Segment (g + 1) 0)) (λ t. simp numbers (omega arith))
         (λ t ht. up-two (Pg g) (CostOf g) _ _ (column-rises G (Pg g) (CostOf g) hg (hg, sound .pieces g t hg ht) (omega arith)) (column-below G (CostOf g) (hg, sound .pieces g t hg ht)))
         (simp numbers (omega (arith, sum-next g (G .segments))))
         (simp numbers (omega (arith, sum-mono (g + 1) (G .k) (G .segments) (omega arith))))))
 
-    zone-inequalities : Zone r c b w (kktRow G (Wub 0)) (nvar G + cones G) (inequalities G f)
-    unfolding upTo
+    zone-inequalities : Zone r c b w (nvar G + nEq G) (nvar G + cones G) (inequalities G f)
     zone-inequalities =
-        to Wub Wlb (G .n) (λ i. simp numbers (omega arith)) (λ i l. up-single (W i) Rows.one (G .bounded i) (column-below G (W i) l)) (simp numbers (omega arith)) (simp numbers (omega arith))
-        next to Wlb Pgub (G .n) (λ i. simp numbers (omega arith)) (λ i l. up-single (W i) minusOne (G .bounded i) (column-below G (W i) l)) (simp numbers (omega arith)) (simp numbers (omega arith))
-        next to Pgub Pglb (G .k) (λ i. simp numbers (omega arith)) (λ g l. up-single (Pg g) Rows.one (G .capable g) (column-below G (Pg g) l)) (simp numbers (omega arith)) (simp numbers (omega arith))
-        next to Pglb Qgub (G .k) (λ i. simp numbers (omega arith)) (λ g l. up-single (Pg g) minusOne (G .capable g) (column-below G (Pg g) l)) (simp numbers (omega arith)) (simp numbers (omega arith))
-        next to Qgub Qglb (G .k) (λ i. simp numbers (omega arith)) (λ g l. up-single (Qg g) Rows.one (G .capable g) (column-below G (Qg g) l)) (simp numbers (omega arith)) (simp numbers (omega arith))
-        next to Qglb Angub (G .k) (λ i. simp numbers (omega arith)) (λ g l. up-single (Qg g) minusOne (G .capable g) (column-below G (Qg g) l)) (simp numbers (omega arith)) (simp numbers (omega arith))
-        next to Angub Anglb (G .m) (λ i. simp numbers (omega arith)) (λ e l. up-angle e _ _ l) (simp numbers (omega arith)) (simp numbers (omega arith))
-        next to Anglb (λ t. Segment t 0) (G .m) (λ i. simp numbers (omega arith)) (λ e l. up-angle e _ _ l) (simp numbers (omega arith)) (simp numbers (omega arith))
-        next zone-costs
+        zone-fit (nvar G + nEq G) (nvar G + cones G) (omega arith) (simp numbers (omega arith))
+        (rows {s = nEq G} Wub (G .n) (λ i. simp numbers (omega arith)) (λ i l. up-single (W i) Rows.one (G .bounded i) (column-below G (W i) l)) (simp numbers (omega arith)) (simp numbers (omega arith))
+        next rows Wlb (G .n) (λ i. simp numbers (omega arith)) (λ i l. up-single (W i) minusOne (G .bounded i) (column-below G (W i) l)) (simp numbers (omega arith)) (simp numbers (omega arith))
+        next rows Pgub (G .k) (λ i. simp numbers (omega arith)) (λ g l. up-single (Pg g) Rows.one (G .capable g) (column-below G (Pg g) l)) (simp numbers (omega arith)) (simp numbers (omega arith))
+        next rows Pglb (G .k) (λ i. simp numbers (omega arith)) (λ g l. up-single (Pg g) minusOne (G .capable g) (column-below G (Pg g) l)) (simp numbers (omega arith)) (simp numbers (omega arith))
+        next rows Qgub (G .k) (λ i. simp numbers (omega arith)) (λ g l. up-single (Qg g) Rows.one (G .capable g) (column-below G (Qg g) l)) (simp numbers (omega arith)) (simp numbers (omega arith))
+        next rows Qglb (G .k) (λ i. simp numbers (omega arith)) (λ g l. up-single (Qg g) minusOne (G .capable g) (column-below G (Qg g) l)) (simp numbers (omega arith)) (simp numbers (omega arith))
+        next rows Angub (G .m) (λ i. simp numbers (omega arith)) (λ e l. up-angle e _ _ l) (simp numbers (omega arith)) (simp numbers (omega arith))
+        next rows Anglb (G .m) (λ i. simp numbers (omega arith)) (λ e l. up-angle e _ _ l) (simp numbers (omega arith)) (simp numbers (omega arith))
+        next zone-costs (simp numbers (omega arith)))
 
   -- ---- the second-order cones
   abbrev pub dim : ℕ
@@ -203,9 +207,9 @@ module _ (G : AcNetwork Float) (sound : Sound G) where
 
     zone-second : Zone r c b w (nvar G + cones G) dim (secondOrder G h)
     zone-second =
-        zone-fit (nvar G + cones G) (nvar G + first 0) (omega arith) (simp numbers (omega arith))
+        zone-fit (nvar G + cones G) (nvar G + (cones G + 4 * G .m)) (omega arith) (omega arith)
         (zone-each (λ e. nvar G + cones G + 4 * e) (G .m) (λ e. h 4 (Jabr e)) (λ e he. zone-fit _ _ (omega arith) (omega arith) (four e he)))
-        next zone-fit (nvar G + first 0) dim (omega arith) (simp numbers (omega arith))
+        next zone-fit _ dim (simp numbers (omega arith)) (simp numbers (omega arith))
         (zone-each (λ e. nvar G + first e) (G .m) (λ e. when (G .limited e) (h 3 (thermalFrom e) ++ h 3 (thermalTo e))) (λ e he. thermal e he (G .limited e) refl))
 
   -- ---- the whole list
@@ -226,36 +230,32 @@ module _ (G : AcNetwork Float) (sound : Sound G) where
     zone-program : Zone c r 1 (nvar G) (nvar G) dim (everyRow G (plainRow G))
     zone-program =
         let row : (x : RowName) → Rises (cells rounded G x) → Zone c r 1 (nvar G) (kktRow G x) (kktRow G x + 1) (plainRow G x) = plain-row c r 1 (omega arith) (nvar G) (omega arith) in
-        zone-fit (nvar G) dim (omega arith) (omega arith)
-        (zone-equalities c r 1 (nvar G) (plainRow G) (λ x l. row x)
+        zone-equalities c r 1 (nvar G) (plainRow G) (λ x l. row x)
         next zone-inequalities c r 1 (nvar G) (plainRow G) (λ x l. row x)
         next zone-second c r 1 (nvar G) (λ d x. each d (λ l. plainRow G (x l)))
         (λ e he. zone-rows _ 4 _ (λ l. plainRow G (Jabr e l)) (omega arith) (λ l hl. let at = jabr-at G e l in zone-fit _ _ (omega arith) (omega arith) (row (Jabr e l) (up-jabr e l he))))
         (λ e he q. zone-rows _ 3 _ (λ l. plainRow G (thermalFrom e l)) (omega arith) (λ l hl. let at = thermal-at e l in zone-fit _ _ (omega arith) (omega arith) (row (thermalFrom e l) (up-thermal e l he))))
-        (λ e he q. zone-rows _ 3 _ (λ l. plainRow G (thermalTo e l)) (omega arith) (λ l hl. let at = thermal-at e (3 + l) in zone-fit _ _ (omega arith) (omega arith) (row (thermalTo e l) (up-thermal e (3 + l) he)))))
+        (λ e he q. zone-rows _ 3 _ (λ l. plainRow G (thermalTo e l)) (omega arith) (λ l hl. let at = thermal-at e (3 + l) in zone-fit _ _ (omega arith) (omega arith) (row (thermalTo e l) (up-thermal e (3 + l) he))))
 
-    -- P's diagonal, in the columns of pg
+    -- P's entries are on the diagonal, at the pg columns, wherever these stand
     zone-quadratic : Zone r c 1 (nvar G) 0 (nvar G) (quadratic G)
     unfolding quadratic
     zone-quadratic =
-        let first = columnNumber G (Pg 0) in
-        let here = column-number G (Pg 0) in
-        zone-fit 0 (nvar G) (omega arith) (omega (arith, nvar-number G))
-        (zone-rows first (G .k) (first + G .k) _ (omega arith)
+        let all : columnNumber G (Pg 0) + G .k ≤ nvar G = simp numbers (omega arith) in
+        zone-fit 0 (nvar G) (omega arith) (omega arith)
+        (zone-rows (columnNumber G (Pg 0)) (G .k) (nvar G) _ all
         (λ g l.
-        let own = column-number G (Pg g) in
-        let inside = column-below G (Pg g) l in
+        let here : columnNumber G (Pg g) ≡ columnNumber G (Pg 0) + g = simp numbers (omega arith) in
         zone-fit _ _ (omega arith) (omega arith) (zone-row (nvar G) (omega arith) (omega arith) (asc-nonzero (columnNumber G (Pg g)) (columnNumber G (Pg g)) (mul binary64 (rounded .two) (G .cq g))))))
 
     zone-head : (b : ℕ) → 1 ≤ b → Zone r c b dim 0 (nvar G) (quadratic G ++ map turned (everyRow G (plainRow G)))
     zone-head b one =
         let sum2 = times-append r c (quadratic G) (map turned (everyRow G (plainRow G))) in
         let t = times-turned r c (everyRow G (plainRow G)) in
-        let columns = nvar-number G in
         record {
           order = omega arith;
           under = λ l. omega arith;
-          over = λ l. omega (arith, sum2, t, zone-quadratic .over (omega arith), zone-program .wide l);
+          over = λ l. omega (arith, sum2, t, zone-quadratic .over l, zone-program .wide l);
           wide = λ l. omega (arith, sum2, t, zone-quadratic .wide (omega arith), zone-program .over l);
           few = elim (decLt c (nvar G)) [
             | yes l ↦ omega (arith, sum2, t, zone-quadratic .few, zone-program .under l)
@@ -268,7 +268,7 @@ module _ (G : AcNetwork Float) (sound : Sound G) where
     zone-kkt b k =
         let one : 1 ≤ b = ⊎-elim (λ e. omega arith) (λ e. omega arith) k in
         zone-head b one
-        next zone-fit (nvar G) (kktRow G (Wub 0)) (omega arith) (omega arith) (zone-equalities r c b dim (plainRow G) (λ x l. plain-row r c b one dim (omega arith) x))
+        next zone-equalities r c b dim (plainRow G) (λ x l. plain-row r c b one dim (omega arith) x)
         next zone-inequalities r c b dim (boundRow G s z) (bound-row b one)
         next zone-second r c b dim (coneBlock G s z) (λ e he. zone-jabr G sound s z r c b dim k e he (omega (arith, jabr-at G e 3, row-below G (Jabr e 3) (he, omega arith))))
         (λ e he q. zone-three G s z (first e) (thermalFrom e) (thermal-at e) (Pf e) (Qf e) (constant64 minusOne) (constant64 minusOne) refl refl refl

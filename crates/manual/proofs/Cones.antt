@@ -52,6 +52,16 @@ All n Q = (i : ℕ) → i < n → Q i
 pointwise : {A B : ℕ → Type 0} (n : ℕ) → ((i : ℕ) → i < n → A i ↔ B i) → ((i : ℕ) → i < n → A i) ↔ ((i : ℕ) → i < n → B i)
 pointwise n h = ((λ f i l. h i l .0 (f i l)), (λ f i l. h i l .1 (f i l)))
 
+-- lists one after another, and what each says
+infixl 20 _then_
+_then_ : {P : ℤ → Type 0} {X Y : Type 0} {xs ys : List ℤ} → Every P xs ↔ X → Every P ys ↔ Y → Every P (xs ++ ys) ↔ (X × Y)
+_then_ {P} {xs = xs} {ys = ys} f g = Iff·trans (every-append P xs ys) (Iff·and f g)
+
+-- a list of statements, which `then` proves of a list of blocks
+infixl 15 _and_
+abbrev _and_ : Type 0 → Type 0 → Type 0
+A and B = A × B
+
 module _ (G : AcNetwork ℤ) (x : ColumnName → ℤ) where
   abbrev s : RowName → ℤ
   s r = slack whole G x r
@@ -62,14 +72,9 @@ module _ (G : AcNetwork ℤ) (x : ColumnName → ℤ) where
   block-length : (n : ℕ) (r : ℕ → RowName) → length (block n r) ≡ n
   block-length n r = each-length n (λ i. s (r i) ∷ []) ∙ sum-ones n
 
-  -- ---- a block of rows, and one behind others
-  module _ (P : ℤ → Type 0) where
-    block-holds : {Q : ℕ → Type 0} (n : ℕ) (r : ℕ → RowName) → ((i : ℕ) → i < n → P (s (r i)) ↔ Q i) → Every P (block n r) ↔ ((i : ℕ) → i < n → Q i)
-    block-holds n r h = Iff·trans (every-each P n (λ i. s (r i) ∷ [])) (pointwise n (λ i l. Iff·trans (every-one P (s (r i))) (h i l)))
-
-    behind : {X : Type 0} {Q : ℕ → Type 0} (xs : List ℤ) → Every P xs ↔ X → (n : ℕ) (r : ℕ → RowName) → ((i : ℕ) → i < n → P (s (r i)) ↔ Q i)
-        → Every P (xs ++ block n r) ↔ (X × ((i : ℕ) → i < n → Q i))
-    behind xs f n r h = Iff·trans (every-append P xs (block n r)) (Iff·and f (block-holds n r h))
+  -- ---- what a block of rows says, and what blocks one after another say
+  block-holds : (P : ℤ → Type 0) {Q : ℕ → Type 0} (n : ℕ) (r : ℕ → RowName) → ((i : ℕ) → i < n → P (s (r i)) ↔ Q i) → Every P (block n r) ↔ All n Q
+  block-holds P n r h = Iff·trans (every-each P n (λ i. s (r i) ∷ [])) (pointwise n (λ i l. Iff·trans (every-one P (s (r i))) (h i l)))
 
   -- ---- the rows of the zero cone
   abbrev balances : List ℤ
@@ -176,51 +181,48 @@ module _ (G : AcNetwork ℤ) (x : ColumnName → ℤ) where
         (product-append (replicate (G .m) (secondOrder 4)) (replicate (2 * limits G) (secondOrder 3)) jabrs thermals (jabrs-length ∙ sym (rows-alike 4 (G .m))))))
 
     module _ (symmetric : (e : ℕ) → e < G .m → Symmetric whole (G .branch e)) where
-      equal-holds : Every Z equal
-          ↔ (((((All (G .n) (λ i. mismatch whole G x i .re ≡ pos 0) × All (G .n) (λ i. mismatch whole G x i .im ≡ pos 0)) × All (G .m) (Flow pf)) × All (G .m) (Flow qf)) × All (G .m) (Flow pt)) × All (G .m) (Flow qt))
-      equal-holds =
-          let ps : List ℤ = block (G .n) Pbal in
-          let qs : List ℤ = ps ++ block (G .n) Qbal in
-          let os : List ℤ = qs ++ block (G .m) OhmPf in
-          let bs : List ℤ = os ++ block (G .m) OhmQf in
-          let cs : List ℤ = bs ++ block (G .m) OhmPt in
-          behind Z cs
-          (behind Z bs
-          (behind Z os (behind Z qs (behind Z ps (block-holds Z (G .n) Pbal (λ i l. pbal-zero G x i)) (G .n) Qbal (λ i l. qbal-zero G x i))
-          (G .m) OhmPf (λ e l. ohm-zero G x e pf (symmetric e l)))
-          (G .m) OhmQf (λ e l. ohm-zero G x e qf (symmetric e l)))
-          (G .m) OhmPt (λ e l. ohm-zero G x e pt (symmetric e l)))
-          (G .m) OhmQt (λ e l. ohm-zero G x e qt (symmetric e l))
+      -- the statements of the zero cone's blocks, and of the nonnegative cone's, in the blocks' order
+      abbrev Equal : Type 0
+      Equal =
+          All (G .n) (λ i. mismatch whole G x i .re ≡ pos 0)
+          and All (G .n) (λ i. mismatch whole G x i .im ≡ pos 0)
+          and All (G .m) (Flow pf)
+          and All (G .m) (Flow qf)
+          and All (G .m) (Flow pt)
+          and All (G .m) (Flow qt)
 
-      bounds-hold : Every N (angles ++ costs)
-          ↔ ((((((((All (G .n) (λ i. G .bounded i ≡ true → x (W i) ≤ℤ (G .vmMax i *ℤ G .vmMax i)) × All (G .n) (λ i. G .bounded i ≡ true → (G .vmMin i *ℤ G .vmMin i) ≤ℤ x (W i)))
-          × All (G .k) (λ g. G .capable g ≡ true → x (Pg g) ≤ℤ G .pmax g)) × All (G .k) (λ g. G .capable g ≡ true → G .pmin g ≤ℤ x (Pg g)))
-          × All (G .k) (λ g. G .capable g ≡ true → x (Qg g) ≤ℤ G .qmax g)) × All (G .k) (λ g. G .capable g ≡ true → G .qmin g ≤ℤ x (Qg g)))
-          × All (G .m) (λ e. G .angled e ≡ true → x (Wi e) ≤ℤ (G .tanmax e *ℤ x (Wr e)))) × All (G .m) (λ e. G .angled e ≡ true → (G .tanmin e *ℤ x (Wr e)) ≤ℤ x (Wi e)))
-          × All (G .k) (λ g. All (G .segments g) (λ t. (G .slope g t *ℤ x (Pg g) +ℤ G .intercept g t) ≤ℤ x (CostOf g))))
+      equal-holds : Every Z equal ↔ Equal
+      equal-holds =
+          block-holds Z (G .n) Pbal (λ i l. pbal-zero G x i)
+          then block-holds Z (G .n) Qbal (λ i l. qbal-zero G x i)
+          then block-holds Z (G .m) OhmPf (λ e l. ohm-zero G x e pf (symmetric e l))
+          then block-holds Z (G .m) OhmQf (λ e l. ohm-zero G x e qf (symmetric e l))
+          then block-holds Z (G .m) OhmPt (λ e l. ohm-zero G x e pt (symmetric e l))
+          then block-holds Z (G .m) OhmQt (λ e l. ohm-zero G x e qt (symmetric e l))
+
+      abbrev Bounds : Type 0
+      Bounds =
+          All (G .n) (λ i. G .bounded i ≡ true → x (W i) ≤ℤ (G .vmMax i *ℤ G .vmMax i))
+          and All (G .n) (λ i. G .bounded i ≡ true → (G .vmMin i *ℤ G .vmMin i) ≤ℤ x (W i))
+          and All (G .k) (λ g. G .capable g ≡ true → x (Pg g) ≤ℤ G .pmax g)
+          and All (G .k) (λ g. G .capable g ≡ true → G .pmin g ≤ℤ x (Pg g))
+          and All (G .k) (λ g. G .capable g ≡ true → x (Qg g) ≤ℤ G .qmax g)
+          and All (G .k) (λ g. G .capable g ≡ true → G .qmin g ≤ℤ x (Qg g))
+          and All (G .m) (λ e. G .angled e ≡ true → x (Wi e) ≤ℤ (G .tanmax e *ℤ x (Wr e)))
+          and All (G .m) (λ e. G .angled e ≡ true → (G .tanmin e *ℤ x (Wr e)) ≤ℤ x (Wi e))
+          and All (G .k) (λ g. All (G .segments g) (λ t. (G .slope g t *ℤ x (Pg g) +ℤ G .intercept g t) ≤ℤ x (CostOf g)))
+
+      bounds-hold : Every N (angles ++ costs) ↔ Bounds
       bounds-hold =
-          let os : List ℤ = block (G .n) Wub in
-          let bs : List ℤ = os ++ block (G .n) Wlb in
-          let cs : List ℤ = bs ++ block (G .k) Pgub in
-          let ds : List ℤ = cs ++ block (G .k) Pglb in
-          let es : List ℤ = ds ++ block (G .k) Qgub in
-          let fs : List ℤ = es ++ block (G .k) Qglb in
-          let gs : List ℤ = fs ++ block (G .m) Angub in
-          Iff·trans (every-append N angles costs)
-          (Iff·and
-          (behind N gs
-          (behind N fs
-          (behind N es
-          (behind N ds
-          (behind N cs
-          (behind N bs (behind N os (block-holds N (G .n) Wub (λ i l. wub-law G x i)) (G .n) Wlb (λ i l. wlb-law G x i))
-          (G .k) Pgub (λ g l. pgub-law G x g))
-          (G .k) Pglb (λ g l. pglb-law G x g))
-          (G .k) Qgub (λ g l. qgub-law G x g))
-          (G .k) Qglb (λ g l. qglb-law G x g))
-          (G .m) Angub (λ e l. angub-law G x e))
-          (G .m) Anglb (λ e l. anglb-law G x e))
-          costs-hold)
+          block-holds N (G .n) Wub (λ i l. wub-law G x i)
+          then block-holds N (G .n) Wlb (λ i l. wlb-law G x i)
+          then block-holds N (G .k) Pgub (λ g l. pgub-law G x g)
+          then block-holds N (G .k) Pglb (λ g l. pglb-law G x g)
+          then block-holds N (G .k) Qgub (λ g l. qgub-law G x g)
+          then block-holds N (G .k) Qglb (λ g l. qglb-law G x g)
+          then block-holds N (G .m) Angub (λ e l. angub-law G x e)
+          then block-holds N (G .m) Anglb (λ e l. anglb-law G x e)
+          then costs-hold
 
       flows : All (G .m) (Flow pf) → All (G .m) (Flow qf) → All (G .m) (Flow pt) → All (G .m) (Flow qt) → (e : ℕ) → e < G .m → (r : OhmRow) → Flow r e
       flows a b c d e l pf = a e l
@@ -231,23 +233,23 @@ module _ (G : AcNetwork ℤ) (x : ColumnName → ℤ) where
       pub from-product : InProduct (cones G) (slacks G x) → Meant G x
       from-product h =
           let p = by-cones .0 h in
-          let z = equal-holds .0 (p .0 .0) in
-          let n = bounds-hold .0 (p .0 .1) in
+          let (((((pbal, qbal), pfs), qfs), pts), qts) = equal-holds .0 (p .0 .0) in
+          let ((((((((wub, wlb), pgub), pglb), qgub), qglb), angub), anglb), cost) = bounds-hold .0 (p .0 .1) in
           let j = fours-hold .0 (p .1 .0) in
           let t = threes-hold .0 (p .1 .1) in
           record {
-            pbal = z .0 .0 .0 .0 .0;
-            qbal = z .0 .0 .0 .0 .1;
-            ohm = flows (z .0 .0 .0 .1) (z .0 .0 .1) (z .0 .1) (z .1);
-            wub = n .0 .0 .0 .0 .0 .0 .0 .0;
-            wlb = n .0 .0 .0 .0 .0 .0 .0 .1;
-            pgub = n .0 .0 .0 .0 .0 .0 .1;
-            pglb = n .0 .0 .0 .0 .0 .1;
-            qgub = n .0 .0 .0 .0 .1;
-            qglb = n .0 .0 .0 .1;
-            angub = n .0 .0 .1;
-            anglb = n .0 .1;
-            cost = λ g t l m. n .1 g l t m;
+            pbal = pbal;
+            qbal = qbal;
+            ohm = flows pfs qfs pts qts;
+            wub = wub;
+            wlb = wlb;
+            pgub = pgub;
+            pglb = pglb;
+            qgub = qgub;
+            qglb = qglb;
+            angub = angub;
+            anglb = anglb;
+            cost = λ g t l m. cost g l t m;
             jabr = λ e l. four-law e .0 (j e l);
             thermal-from = λ e l q. three-from e .0 (t e l q .0);
             thermal-to = λ e l q. three-to e .0 (t e l q .1);

@@ -1,10 +1,10 @@
--- `entries::whole::cone_rows` meets its contract. Assumes nothing.
-use Rattle.lists.proofs.Written.{then, pos, len-rows, len-cols, len-vals}
+-- `entries::whole::cone_rows` meets its contract: each call goes on where the one before it ended, and where a list has room its blocks have. Assumes nothing.
+use Rattle.lists.proofs.Written.{then, len-rows, len-cols, len-vals}
 use denote.Ref.{now}
 use Rattle.lists.specs.UpTo.{each}
-use Rattle.complementarity.proofs.Rooms.{room-first, room-then}
-use mathlib.Core.List.{_++_}
-use Rattle.numbering.specs.declared.RowName.the-variants.{Pbal, Qbal, OhmPf, OhmQf, OhmPt, OhmQt, Wub, Wlb, Pgub, Pglb, Qgub, Qglb, Angub, Anglb, Segment, Jabr}
+use Rattle.entries.proofs.Rooms.{shorter, plain-start, plain-next}
+use Rattle.numbering.specs.declared.RowName.the-variants.{Jabr}
+use Rattle.rows.specs.Program.{secondOrder}
 use Rattle.numbering.specs.Laid.{netOf}
 use Rattle.complementarity.specs.Writes.{coneIn}
 use Rattle.blocks.specs.Kinds.{thermalIn}
@@ -14,14 +14,18 @@ use Rattle.entries.proofs.whole.cone_rows.Tie as tie
 jabr-rows-requires : tie.Need-jabr-rows-requires
 unfolding thermalIn
 jabr-rows-requires c κs =
-    let N = netOf (c .before .before .before .before .before .before .before .before .before .args .l) (now (c .before .before .before .before .before .before .before .before .before .args .bytes)) in
-    (c .before .before .before .before .before .before .before .before .before .pre .0, (room-first _ _ (each (N .m) (λ e. coneIn N (now (c .before .before .before .before .before .before .before .before .before .args .x)) (now (c .before .before .before .before .before .before .before .before .before .args .z)) (c .before .before .before .before .before .before .before .before .before .args .d) 4 (Jabr e))) (each (N .m) (thermalIn N (now (c .before .before .before .before .before .before .before .before .before .args .x)) (now (c .before .before .before .before .before .before .before .before .before .args .z)) (c .before .before .before .before .before .before .before .before .before .args .d))) (c .before .before .before .before .before .before .before .before .before .pre .1)))
+    let s = c .before .before .before .before .before .before .before .before .before in
+    let N = netOf (s .args .l) (now (s .args .bytes)) in
+    let f = coneIn N (now (s .args .x)) (now (s .args .z)) (s .args .d) in
+    (s .pre .0, plain-start _ _ (each (N .m) (λ e. f 4 (Jabr e))) (secondOrder N f) (search shorter depth 12) (s .pre .1))
 
 thermal-rows-requires : tie.Need-thermal-rows-requires
 unfolding thermalIn
 thermal-rows-requires c κs =
-    let N = netOf (c .before .before .before .before .before .before .before .before .before .before .before .before .before .before .before .before .before .before .before .args .l) (now (c .before .before .before .before .before .before .before .before .before .before .before .before .before .before .before .before .before .before .before .args .bytes)) in
-    (c .before .before .before .before .before .before .before .before .before .before .before .before .before .before .before .before .before .before .before .pre .0, room-then (each (N .m) (thermalIn N (now (c .before .before .before .before .before .before .before .before .before .before .before .before .before .before .before .before .before .before .before .args .x)) (now (c .before .before .before .before .before .before .before .before .before .before .before .before .before .before .before .before .before .before .before .args .z)) (c .before .before .before .before .before .before .before .before .before .before .before .before .before .before .before .before .before .before .before .args .d))) (c .before .before .before .before .before .before .before .before .before .jabr-rows .ensures) (c .before .before .before .before .before .before .before .before .before .before .before .before .before .before .before .before .before .before .before .pre .1))
+    let s = c .before .before .before .before .before .before .before .before .before .before .before .before .before .before .before .before .before .before .before in
+    let N = netOf (s .args .l) (now (s .args .bytes)) in
+    let f = coneIn N (now (s .args .x)) (now (s .args .z)) (s .args .d) in
+    (s .pre .0, plain-next (each (N .m) (thermalIn N (now (s .args .x)) (now (s .args .z)) (s .args .d))) (secondOrder N f) (c .before .before .before .before .before .before .before .before .before .jabr-rows .ensures) (search shorter depth 12) (s .pre .1))
 
 same-length : tie.Need-same-length
 same-length c = len-rows (then (c .before .before .before .before .before .before .before .before .before .before .before .before .before .before .before .before .jabr-rows .ensures) (c .before .before .before .before .before .before .thermal-rows .ensures))
