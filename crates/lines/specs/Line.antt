@@ -1,5 +1,5 @@
 -- Rows of the program that have at most two terms, as numbers: every row but those of the zero cone.
-use Prim.Native.Nat.{ℕ, _+_, _<_}
+use Prim.Native.Nat.{ℕ, _<_}
 use mathlib.Core.Path.{_≡_}
 use mathlib.Core.Bool.{Bool, true, false, cond}
 use mathlib.Core.List.{List, [], _∷_, _++_, map}
@@ -77,12 +77,12 @@ pub record ConeStands (G : AcNetwork Float) (d : ℕ) (x : ℕ → RowName) (c :
   pub lines : (l : ℕ) → l < d → Stands G (x l) (coneLine c l)
   pub within : (l : ℕ) → Within (nvar G) (ncon G) (coneLine c l)
 
--- the three rows of a thermal cone from row r on
-abbrev pub thermal : ℕ → Float → ℕ → ℕ → Cone
-thermal r rate p q =
+-- the three rows of a thermal cone
+abbrev pub thermal : ℕ → ℕ → ℕ → Float → ℕ → ℕ → Cone
+thermal first second third rate p q =
     record {
-      a = single r rate false p zero64;
-      b = single (r + 1) zero64 true p (constant64 minusOne);
-      c = single (r + 2) zero64 true q (constant64 minusOne);
-      d = single (r + 2) zero64 true q (constant64 minusOne);
+      a = single first rate false p zero64;
+      b = single second zero64 true p (constant64 minusOne);
+      c = single third zero64 true q (constant64 minusOne);
+      d = single third zero64 true q (constant64 minusOne);
     }
