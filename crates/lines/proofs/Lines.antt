@@ -27,7 +27,7 @@ use Rattle.rows.specs.Program.{thermalFrom, thermalTo}
 use Rattle.rows.proofs.Shape.{written-when, endTerms, jabr-first, jabr-last}
 use Rattle.records.proofs.Sound.{sound}
 use Rattle.records.proofs.Segments.{segments-fit}
-use Rattle.lines.specs.Line.{lineAt, Within, Stands, spot, line, single, ends, coneLine, ConeStands, thermal}
+use Rattle.lines.specs.Line.{lineAt, Within, Stands, spot, line, singleLine, endsLine, coneLine, ConeStands, thermal}
 use Rattle.lines.specs.declared.Cone.{Cone}
 use Rattle.lines.specs.declared.Line.{Line}
 
@@ -39,7 +39,7 @@ module _ (l : SocWrLayout) (bytes : List ℕ) (h : Laid l bytes) where
   one-term : (x : RowName) (c : ColumnName) (k : Constant) (on : Bool) (v : Float) {row col : ℕ} → row ≡ rowNumber G x → col ≡ columnNumber G c
       → ((r : ℕ) (f : Float → Float) → map (λ t. entry r (columnNumber G (t .col)) (f (t .coef))) (terms G x) ≡ map (λ t. entry r (columnNumber G (t .col)) (f (t .coef))) (when on (term c (constant64 k) ∷ [])))
       → v ≡ b G x → HasRow G x → HasColumn G c
-      → Stands G x (single row v on col (constant64 k))
+      → Stands G x (singleLine row v on col (constant64 k))
   unfolding lineAt
   one-term x c k on v hr hc e p dr dc =
       rw (hr, hc)
@@ -55,32 +55,32 @@ module _ (l : SocWrLayout) (bytes : List ℕ) (h : Laid l bytes) where
       go false r f = refl
 
   pub wub-stands : (i : ℕ) → i < l .n → Stands G (Wub i)
-      (single (layoutRow l (Wub i)) (b G (Wub i)) (voltageBoundOf bytes i) (layoutColumn l (W i)) (constant64 one))
+      (singleLine (layoutRow l (Wub i)) (b G (Wub i)) (voltageBoundOf bytes i) (layoutColumn l (W i)) (constant64 one))
   unfolding terms b
   wub-stands i d = one-term (Wub i) (W i) one (voltageBoundOf bytes i) _ (laid-row l bytes h (Wub i) refl) (laid-column l bytes h (W i) refl) (λ r f. rw written-when) refl d d
 
   pub wlb-stands : (i : ℕ) → i < l .n → Stands G (Wlb i)
-      (single (layoutRow l (Wlb i)) (b G (Wlb i)) (voltageBoundOf bytes i) (layoutColumn l (W i)) (constant64 minusOne))
+      (singleLine (layoutRow l (Wlb i)) (b G (Wlb i)) (voltageBoundOf bytes i) (layoutColumn l (W i)) (constant64 minusOne))
   unfolding terms b
   wlb-stands i d = one-term (Wlb i) (W i) minusOne (voltageBoundOf bytes i) _ (laid-row l bytes h (Wlb i) refl) (laid-column l bytes h (W i) refl) (λ r f. rw written-when) refl d d
 
   pub pgub-stands : (g : ℕ) → g < l .k → Stands G (Pgub g)
-      (single (layoutRow l (Pgub g)) (b G (Pgub g)) (capabilityOf bytes (l .n + l .m + g)) (layoutColumn l (Pg g)) (constant64 one))
+      (singleLine (layoutRow l (Pgub g)) (b G (Pgub g)) (capabilityOf bytes (l .n + l .m + g)) (layoutColumn l (Pg g)) (constant64 one))
   unfolding terms b
   pgub-stands g d = one-term (Pgub g) (Pg g) one (capabilityOf bytes (l .n + l .m + g)) _ (laid-row l bytes h (Pgub g) refl) (laid-column l bytes h (Pg g) refl) (λ r f. rw written-when) refl d d
 
   pub pglb-stands : (g : ℕ) → g < l .k → Stands G (Pglb g)
-      (single (layoutRow l (Pglb g)) (b G (Pglb g)) (capabilityOf bytes (l .n + l .m + g)) (layoutColumn l (Pg g)) (constant64 minusOne))
+      (singleLine (layoutRow l (Pglb g)) (b G (Pglb g)) (capabilityOf bytes (l .n + l .m + g)) (layoutColumn l (Pg g)) (constant64 minusOne))
   unfolding terms b
   pglb-stands g d = one-term (Pglb g) (Pg g) minusOne (capabilityOf bytes (l .n + l .m + g)) _ (laid-row l bytes h (Pglb g) refl) (laid-column l bytes h (Pg g) refl) (λ r f. rw written-when) refl d d
 
   pub qgub-stands : (g : ℕ) → g < l .k → Stands G (Qgub g)
-      (single (layoutRow l (Qgub g)) (b G (Qgub g)) (capabilityOf bytes (l .n + l .m + g)) (layoutColumn l (Qg g)) (constant64 one))
+      (singleLine (layoutRow l (Qgub g)) (b G (Qgub g)) (capabilityOf bytes (l .n + l .m + g)) (layoutColumn l (Qg g)) (constant64 one))
   unfolding terms b
   qgub-stands g d = one-term (Qgub g) (Qg g) one (capabilityOf bytes (l .n + l .m + g)) _ (laid-row l bytes h (Qgub g) refl) (laid-column l bytes h (Qg g) refl) (λ r f. rw written-when) refl d d
 
   pub qglb-stands : (g : ℕ) → g < l .k → Stands G (Qglb g)
-      (single (layoutRow l (Qglb g)) (b G (Qglb g)) (capabilityOf bytes (l .n + l .m + g)) (layoutColumn l (Qg g)) (constant64 minusOne))
+      (singleLine (layoutRow l (Qglb g)) (b G (Qglb g)) (capabilityOf bytes (l .n + l .m + g)) (layoutColumn l (Qg g)) (constant64 minusOne))
   unfolding terms b
   qglb-stands g d = one-term (Qglb g) (Qg g) minusOne (capabilityOf bytes (l .n + l .m + g)) _ (laid-row l bytes h (Qglb g) refl) (laid-column l bytes h (Qg g) refl) (λ r f. rw written-when) refl d d
 
@@ -166,8 +166,8 @@ module _ (l : SocWrLayout) (bytes : List ℕ) (h : Laid l bytes) where
   ordered p f u r v = cond p (line r zero64 (spot true f (constant64 minusHalf)) (spot true u v)) (line r zero64 (spot true u v) (spot true f (constant64 minusHalf)))
 
   ends-stand : (x : RowName) (e : ℕ) (k : Constant) {row : ℕ} → e < l .m → row ≡ rowNumber G x → terms G x ≡ endTerms G e minusHalf k → zero64 ≡ b G x → HasRow G x
-      → Stands G x (ends l (G .from e) (G .to e) row (constant64 k))
-  unfolding endTerms ends lineAt
+      → Stands G x (endsLine l (G .from e) (G .to e) row (constant64 k))
+  unfolding endTerms endsLine lineAt
   ends-stand x e k d hr ht hb dr =
       rw (hr, laid-column l bytes h (W (G .from e)) refl, laid-column l bytes h (W (G .to e)) refl)
       (record {
@@ -213,10 +213,10 @@ module _ (l : SocWrLayout) (bytes : List ℕ) (h : Laid l bytes) where
   four P x y z w (suc (suc (suc (suc q)))) p = absurd (omega arith)
 
   pub jabr-stands : (e : ℕ) → e < l .m → (c : Cone)
-      → c .a ≡ ends l (G .from e) (G .to e) (layoutRow l (Jabr e 0)) (constant64 minusHalf)
-      → c .b ≡ single (layoutRow l (Jabr e 1)) zero64 true (layoutColumn l (Wr e)) (constant64 minusOne)
-      → c .c ≡ single (layoutRow l (Jabr e 2)) zero64 true (layoutColumn l (Wi e)) (constant64 minusOne)
-      → c .d ≡ ends l (G .from e) (G .to e) (layoutRow l (Jabr e 3)) (constant64 half)
+      → c .a ≡ endsLine l (G .from e) (G .to e) (layoutRow l (Jabr e 0)) (constant64 minusHalf)
+      → c .b ≡ singleLine (layoutRow l (Jabr e 1)) zero64 true (layoutColumn l (Wr e)) (constant64 minusOne)
+      → c .c ≡ singleLine (layoutRow l (Jabr e 2)) zero64 true (layoutColumn l (Wi e)) (constant64 minusOne)
+      → c .d ≡ endsLine l (G .from e) (G .to e) (layoutRow l (Jabr e 3)) (constant64 half)
       → ConeStands G 4 (Jabr e) c
   unfolding terms b
   jabr-stands e d c ea eb ec ed =
@@ -235,7 +235,7 @@ module _ (l : SocWrLayout) (bytes : List ℕ) (h : Laid l bytes) where
 
   -- no term
   none-there : (x : RowName) (c : ColumnName) (w v : Float) {row col : ℕ} → row ≡ rowNumber G x → col ≡ columnNumber G c → terms G x ≡ [] → v ≡ b G x → HasRow G x → HasColumn G c
-      → Stands G x (single row v false col w)
+      → Stands G x (singleLine row v false col w)
   unfolding lineAt
   none-there x c w v hr hc e p dr dc =
       rw (hr, hc)
@@ -290,13 +290,13 @@ module _ (l : SocWrLayout) (bytes : List ℕ) (h : Laid l bytes) where
 
 -- what a line's and a cone's tests pick
 pub ends-up : (l : SocWrLayout) (f t r : ℕ) (v : Float) → f < t
-    → ends l f t r v ≡ line r zero64 (spot true (layoutColumn l (W f)) (constant64 minusHalf)) (spot true (layoutColumn l (W t)) v)
-unfolding ends
+    → endsLine l f t r v ≡ line r zero64 (spot true (layoutColumn l (W f)) (constant64 minusHalf)) (spot true (layoutColumn l (W t)) v)
+unfolding endsLine
 ends-up l f t r v h = rw (lt-ltb f t h)
 
 pub ends-down : (l : SocWrLayout) (f t r : ℕ) (v : Float) → t ≤ f
-    → ends l f t r v ≡ line r zero64 (spot true (layoutColumn l (W t)) v) (spot true (layoutColumn l (W f)) (constant64 minusHalf))
-unfolding ends
+    → endsLine l f t r v ≡ line r zero64 (spot true (layoutColumn l (W t)) v) (spot true (layoutColumn l (W f)) (constant64 minusHalf))
+unfolding endsLine
 ends-down l f t r v h = rw (le-ltb f t h)
 
 pub last-line : (c : Cone) (q : ℕ) → (q ≡ 0 → ⊥) → (q ≡ 1 → ⊥) → (q ≡ 2 → ⊥) → c .d ≡ coneLine c q

@@ -58,12 +58,12 @@ spot on c v = record { on = on; col = c; val = v }
 abbrev pub line : ℕ → Float → Spot → Spot → Line
 line r b s t = record { row = r; rhs = b; first = s; second = t }
 
-abbrev pub single : ℕ → Float → Bool → ℕ → Float → Line
-single r b on c v = line r b (spot false c v) (spot on c v)
+abbrev pub singleLine : ℕ → Float → Bool → ℕ → Float → Line
+singleLine r b on c v = line r b (spot false c v) (spot on c v)
 
 -- two terms at the columns of the buses f and t, the smaller number first
-unfoldable pub ends : SocWrLayout → ℕ → ℕ → ℕ → Float → Line
-ends l f t r v =
+unfoldable pub endsLine : SocWrLayout → ℕ → ℕ → ℕ → Float → Line
+endsLine l f t r v =
     cond (ltb f t)
     (line r zero64 (spot true (layoutColumn l (W f)) (constant64 minusHalf)) (spot true (layoutColumn l (W t)) v))
     (line r zero64 (spot true (layoutColumn l (W t)) v) (spot true (layoutColumn l (W f)) (constant64 minusHalf)))
@@ -81,8 +81,8 @@ pub record ConeStands (G : AcNetwork Float) (d : ℕ) (x : ℕ → RowName) (c :
 abbrev pub thermal : ℕ → ℕ → ℕ → Float → ℕ → ℕ → Cone
 thermal first second third rate p q =
     record {
-      a = single first rate false p zero64;
-      b = single second zero64 true p (constant64 minusOne);
-      c = single third zero64 true q (constant64 minusOne);
-      d = single third zero64 true q (constant64 minusOne);
+      a = singleLine first rate false p zero64;
+      b = singleLine second zero64 true p (constant64 minusOne);
+      c = singleLine third zero64 true q (constant64 minusOne);
+      d = singleLine third zero64 true q (constant64 minusOne);
     }

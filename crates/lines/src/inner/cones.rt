@@ -16,7 +16,7 @@ ghost use Rattle.lists.specs.UpTo.{count};
 ghost use Rattle.numbering.specs.declared.RowName.the-variants.{Jabr};
 ghost use Rattle.numbering.specs.Laid.{netOf, Laid};
 ghost use Rattle.rows.specs.Program.{thermalFrom, thermalTo};
-ghost use Rattle.lines.specs.Line.{ends as endsOf, thermal as thermalOf, coneLine, ConeStands};
+ghost use Rattle.lines.specs.Line.{endsLine as endsOf, thermal as thermalOf, coneLine, ConeStands};
 
 // Row l of a cone.
 pub fn line_of(c: Cone, l: usize) -> Line
@@ -82,7 +82,14 @@ pub fn thermal_from(l: SocWrLayout, bytes: &[u8], e: usize, limits: usize) -> Co
     let a = l.thermal_row(limits, 0);
     let b = l.thermal_row(limits, 1);
     let c = l.thermal_row(limits, 2);
-    thermal(a, b, c, rate_a(bytes, l.n + e), l.pf_column(e), l.qf_column(e))
+    thermal(
+        a,
+        b,
+        c,
+        rate_a(bytes, l.n + e),
+        l.pf_column(e),
+        l.qf_column(e),
+    )
 }
 
 pub fn thermal_to(l: SocWrLayout, bytes: &[u8], e: usize, limits: usize) -> Cone
@@ -93,5 +100,12 @@ pub fn thermal_to(l: SocWrLayout, bytes: &[u8], e: usize, limits: usize) -> Cone
     let a = l.thermal_row(limits, 3);
     let b = l.thermal_row(limits, 4);
     let c = l.thermal_row(limits, 5);
-    thermal(a, b, c, rate_a(bytes, l.n + e), l.pt_column(e), l.qt_column(e))
+    thermal(
+        a,
+        b,
+        c,
+        rate_a(bytes, l.n + e),
+        l.pt_column(e),
+        l.qt_column(e),
+    )
 }
