@@ -25,10 +25,10 @@ endCount l Gen = l .k
 endCount l From = l .m
 endCount l To = l .m
 
-abbrev pub endBus : AcNetwork Float → End → ℕ → ℕ
-endBus G Gen j = G .genBus j
-endBus G From j = G .from j
-endBus G To j = G .to j
+abbrev pub busAt : AcNetwork Float → End → ℕ → ℕ
+busAt G Gen j = G .genBus j
+busAt G From j = G .from j
+busAt G To j = G .to j
 
 -- in the active rows, and in the reactive rows
 abbrev pub endColumn : Bool → End → ℕ → ColumnName
@@ -54,16 +54,16 @@ selfValue G false i = neg (G .gs i)
 selfValue G true i = G .bs i
 
 -- the ends at bus i, as entries of row r
-unfoldable pub endsAt : SocWrLayout → AcNetwork Float → Bool → End → ℕ → ℕ → List Entry
-endsAt l G q end i r = each (endCount l end) (λ j. when (eqb (endBus G end j) i) (entry r (columnNumber G (endColumn q end j)) (constant64 (endConstant end)) ∷ []))
+unfoldable pub endEntries : SocWrLayout → AcNetwork Float → Bool → End → ℕ → ℕ → List Entry
+endEntries l G q end i r = each (endCount l end) (λ j. when (eqb (busAt G end j) i) (entry r (columnNumber G (endColumn q end j)) (constant64 (endConstant end)) ∷ []))
 
 -- ---- the same entries in the order in which passes over the records meet them: by end, not by bus; r is the row of bus 0
 abbrev pub endPass : AcNetwork Float → Bool → ℕ → End → Pass
 endPass G q r end =
     record {
       test = λ j. true;
-      keys = λ j. endBus G end j;
-      entries = λ j. entry (r + endBus G end j) (columnNumber G (endColumn q end j)) (constant64 (endConstant end));
+      keys = λ j. busAt G end j;
+      entries = λ j. entry (r + busAt G end j) (columnNumber G (endColumn q end j)) (constant64 (endConstant end));
     }
 
 abbrev pub selfPass : AcNetwork Float → Bool → ℕ → Pass

@@ -18,15 +18,15 @@ use Rattle.numbering.specs.declared.SocWrLayout.{SocWrLayout}
 use Rattle.numbering.specs.declared.RowName.{RowName}
 use Rattle.rows.specs.Program.{nonzero}
 use Rattle.kkt.specs.Kkt.{kktRow, plainRow}
-use Rattle.lines.specs.Ohm.{ohmAt, OhmStands}
+use Rattle.lines.specs.Ohm.{ohmEntries, OhmStands}
 use Rattle.lines.specs.declared.Ohm.{Ohm}
 use Rattle.lines.proofs.Sizes.{nvar-is, small}
 
 -- of an Ohm row
 pub ohm-same : {l : SocWrLayout} {bytes : List ℕ} {v : ℕ} {r : RowName} {o : Ohm} → Laid l bytes → v ≡ nvarOf l → OhmStands (netOf l bytes) r o
-    → (v + o .row < 2 ^ 32) × (ohmAt (v + o .row) o ≡ plainRow (netOf l bytes) r)
+    → (v + o .row < 2 ^ 32) × (ohmEntries (v + o .row) o ≡ plainRow (netOf l bytes) r)
 ohm-same {l} {bytes} {v} {r} {o} h e s =
-    (omega (arith, small h, nvar-is h e, s .within), ap₂ (λ (a k : ℕ). ohmAt (a + k) o) (nvar-is h e) (s .number) ∙ sym (s .entries (kktRow (netOf l bytes) r)))
+    (omega (arith, small h, nvar-is h e, s .within), ap₂ (λ (a k : ℕ). ohmEntries (a + k) o) (nvar-is h e) (s .number) ∙ sym (s .entries (kktRow (netOf l bytes) r)))
 
 -- counts over the records, one record more
 pub count-more : {i : ℕ} (n : ℕ) (p : ℕ → Bool) (j : ℕ) → i ≡ count n p → j ≡ bit (p n) → i + j ≡ count (n + 1) p

@@ -16,7 +16,7 @@ use Rattle.records.specs.AcNetwork.{AcNetwork}
 use Rattle.rows.specs.Rows.{OhmRow, pf, qf, pt, qt, endBus}
 use Rattle.matrix.specs.Columns.{shuntCells, ohmCell, boundCells, coneFrom, coneTo, ohmAt, conesAt, wCells}
 use Rattle.incidence.specs.Incidence.{endsAt, endsOf}
-use Rattle.bus_columns.specs.Ends.{sideOf, sideEnds, ohmEnd, coneEnd, ohmsOf, conesOf, blocksOf}
+use Rattle.bus_columns.specs.Ends.{parityOf, sideEnds, ohmEnd, coneEnd, ohmsOf, coneCells, blocksOf}
 
 -- ---- what each number of a list stands for, joined
 
@@ -91,16 +91,16 @@ one-or-none true x = omega arith
 one-or-none false x = omega arith
 
 module _ (G : AcNetwork Float) where
-  ohm-even : (r : OhmRow) (e : ℕ) → e < G .m → ohmEnd G r (2 * e) ≡ when (eqb 0 (sideOf r)) (ohmCell G r e)
+  ohm-even : (r : OhmRow) (e : ℕ) → e < G .m → ohmEnd G r (2 * e) ≡ when (eqb 0 (parityOf r)) (ohmCell G r e)
   unfolding ohmEnd
   ohm-even r e h = rw (even e, half-even e, lt-ltb e (G .m) h)
 
-  ohm-odd : (r : OhmRow) (e : ℕ) → e < G .m → ohmEnd G r (2 * e + 1) ≡ when (eqb 1 (sideOf r)) (ohmCell G r e)
+  ohm-odd : (r : OhmRow) (e : ℕ) → e < G .m → ohmEnd G r (2 * e + 1) ≡ when (eqb 1 (parityOf r)) (ohmCell G r e)
   unfolding ohmEnd
   ohm-odd r e h = rw (odd e, half-odd e, lt-ltb e (G .m) h)
 
   ohm-side : (r : OhmRow) (i e : ℕ) (cs : List Cell)
-      → when (eqb (G .from e) i) (when (eqb 0 (sideOf r)) cs) ++ when (eqb (G .to e) i) (when (eqb 1 (sideOf r)) cs) ≡ when (eqb (endBus G r e) i) cs
+      → when (eqb (G .from e) i) (when (eqb 0 (parityOf r)) cs) ++ when (eqb (G .to e) i) (when (eqb 1 (parityOf r)) cs) ≡ when (eqb (endBus G r e) i) cs
   ohm-side pf i e cs = rw (when-nil {A = Cell} (eqb (G .to e) i)) (append-nil _)
   ohm-side qf i e cs = rw (when-nil {A = Cell} (eqb (G .to e) i)) (append-nil _)
   ohm-side pt i e cs = rw (when-nil {A = Cell} (eqb (G .from e) i))
@@ -115,11 +115,11 @@ module _ (G : AcNetwork Float) where
   cone-odd e h = rw (odd e, half-odd e, lt-ltb e (G .m) h)
 
   -- a side's ends give the cells that all ends give
-  pub ohms-sided : (r : OhmRow) (xs : List ℕ) → ohmsOf G (sideEnds (sideOf r) xs) r ≡ ohmsOf G xs r
+  pub ohms-sided : (r : OhmRow) (xs : List ℕ) → ohmsOf G (sideEnds (parityOf r) xs) r ≡ ohmsOf G xs r
   unfolding sideEnds ohmEnd
   ohms-sided r xs =
-      picked (ohmEnd G r) (λ x. eqb (x % 2) (sideOf r)) xs
-      ∙ each-ext _ _ (length xs) (λ j l. when-again (eqb (getD xs j 0 % 2) (sideOf r)) _)
+      picked (ohmEnd G r) (λ x. eqb (x % 2) (parityOf r)) xs
+      ∙ each-ext _ _ (length xs) (λ j l. when-again (eqb (getD xs j 0 % 2) (parityOf r)) _)
 
   -- the four blocks by pairs
   pub blocks-paired : (xs : List ℕ) → (ohmsOf G xs pf ++ ohmsOf G xs qf) ++ (ohmsOf G xs pt ++ ohmsOf G xs qt) ≡ blocksOf G xs
@@ -137,15 +137,15 @@ module _ (G : AcNetwork Float) where
     unfolding ohmAt
     ohms-are r = by-branches (ohmEnd G r) G i xs q ∙ each-ext _ _ (G .m) (λ e h. rw (ohm-even r e h, ohm-odd r e h) (ohm-side r i e (ohmCell G r e)))
 
-    cones-are : conesOf G xs ≡ each (G .m) (conesAt G i)
+    cones-are : coneCells G xs ≡ each (G .m) (conesAt G i)
     unfolding conesAt
     cones-are = by-branches (coneEnd G) G i xs q ∙ each-ext _ _ (G .m) (λ e h. rw (cone-even e h, cone-odd e h))
 
-    pub column-is : shuntCells G i ++ blocksOf G xs ++ boundCells G i ++ conesOf G xs ≡ wCells G i
+    pub column-is : shuntCells G i ++ blocksOf G xs ++ boundCells G i ++ coneCells G xs ≡ wCells G i
     unfolding blocksOf wCells
     column-is = rw (ohms-are pf, ohms-are qf, ohms-are pt, ohms-are qt, cones-are) (simp append-assoc)
 
-    pub column-length : length (wCells G i) ≡ length (shuntCells G i) + length (blocksOf G xs) + length (boundCells G i) + length (conesOf G xs)
+    pub column-length : length (wCells G i) ≡ length (shuntCells G i) + length (blocksOf G xs) + length (boundCells G i) + length (coneCells G xs)
     column-length = sym (ap length column-is) ∙ simp length-append
 
     pub ends-few : length xs ≤ 2 * G .m

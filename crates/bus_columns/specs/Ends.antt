@@ -13,11 +13,11 @@ use Rattle.rows.specs.Rows.{OhmRow, pf, qf, pt, qt, half, minusHalf, constant64
 use Rattle.matrix.specs.Columns.{at, ohmCell}
 
 -- the side of an Ohm row: 0 at the from end, 1 at the to end
-abbrev pub sideOf : OhmRow → ℕ
-sideOf pf = 0
-sideOf qf = 0
-sideOf pt = 1
-sideOf qt = 1
+abbrev pub parityOf : OhmRow → ℕ
+parityOf pf = 0
+parityOf qf = 0
+parityOf pt = 1
+parityOf qt = 1
 
 -- the ends of one side in a list, in order
 unfoldable pub sideEnds : ℕ → List ℕ → List ℕ
@@ -30,7 +30,7 @@ lastValue false = constant64 half
 
 module _ (G : AcNetwork Float) where
   unfoldable pub ohmEnd : OhmRow → ℕ → List Cell
-  ohmEnd r x = when (eqb (x % 2) (sideOf r)) (when (ltb (x / 2) (G .m)) (ohmCell G r (x / 2)))
+  ohmEnd r x = when (eqb (x % 2) (parityOf r)) (when (ltb (x / 2) (G .m)) (ohmCell G r (x / 2)))
 
   unfoldable pub coneEnd : ℕ → List Cell
   coneEnd x = when (ltb (x / 2) (G .m)) (at G (Jabr (x / 2) 0) (constant64 minusHalf) ++ at G (Jabr (x / 2) 3) (lastValue (eqb (x % 2) 0)))
@@ -39,8 +39,8 @@ module _ (G : AcNetwork Float) where
   abbrev pub ohmsOf : List ℕ → OhmRow → List Cell
   ohmsOf xs r = each (length xs) (λ j. ohmEnd r (getD xs j 0))
 
-  abbrev pub conesOf : List ℕ → List Cell
-  conesOf xs = each (length xs) (λ j. coneEnd (getD xs j 0))
+  abbrev pub coneCells : List ℕ → List Cell
+  coneCells xs = each (length xs) (λ j. coneEnd (getD xs j 0))
 
   unfoldable pub blocksOf : List ℕ → List Cell
   blocksOf xs = ohmsOf xs pf ++ ohmsOf xs qf ++ ohmsOf xs pt ++ ohmsOf xs qt

@@ -65,14 +65,14 @@ module _ (G : AcNetwork Float) where
 
   module _ (x z : List Float) where
     -- a bound's row: z times db/dp
-    abbrev pub bounded : RowName → Float → List Store
-    bounded r dbdp = put (kktRow G r) (mul binary64 (zAt G z r) dbdp) ∷ []
+    abbrev pub boundStore : RowName → Float → List Store
+    boundStore r dbdp = put (kktRow G r) (mul binary64 (zAt G z r) dbdp) ∷ []
 
     unfoldable pub stores : Parameter → ℕ → List Store
     stores (Demand power) i = put (kktRow G (priceRow power i)) (constant64 minusOne) ∷ []
     stores LineLimit e = limitStores z e
-    stores (VoltageBound bound) i = bounded (voltageRow bound i) (dbdp bound)
-    stores (GenBound power bound) g = bounded (genRow power bound g) (dbdp bound)
+    stores (VoltageBound bound) i = boundStore (voltageRow bound i) (dbdp bound)
+    stores (GenBound power bound) g = boundStore (genRow power bound g) (dbdp bound)
     stores (Cost term) g = put (columnNumber G (Pg g)) (costSlope term (xAt G x (Pg g))) ∷ []
     stores (ShuntAdmittance gb) i = shuntStores G x z gb i
     stores (SeriesAdmittance gb) e = seriesStores G x z gb e

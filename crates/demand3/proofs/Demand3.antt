@@ -1,7 +1,6 @@
 -- Demand 3 holds of every accepted network. Assumes nothing.
 use Prim.Native.Nat.{ℕ, _+_}
 use mathlib.Core.List.{List}
-use native.Mathlib.Omega.{arith}
 use lib.ListN.{getD}
 use lib.Ieee.{Float, nan}
 use Rattle.lists.proofs.Ascending.{every-inside}
@@ -25,7 +24,7 @@ places G h s z =
       once = kkt-once G h s z;
       twice = kkt-twice G h s z;
       inside = every-inside (nvar G + ncon G) (kktOf G s z) (kkt-inside G h s z);
-      bound = omega (arith, kkt-count G s z, h .added);
+      bound = kkt-count G s z (h .added);
     }
 
 pub kkt-places : (G : AcNetwork Float) → Sound G → (x z : List Float) → Places G (kkt G x z)

@@ -14,6 +14,7 @@ use Rattle.lists.proofs.Sums.{sum-ext, sum-le, sum-add, sum-ones, each-length, 
 use Rattle.ring.specs.Ops.{rounded}
 use Rattle.records.specs.AcNetwork.{AcNetwork}
 use Rattle.numbering.specs.Numbering.{columnNumber, limits}
+use Rattle.numbering.specs.Layout.{layoutOf}
 use Rattle.rows.specs.Rows.{Constant, constant, one, minusOne, minusHalf, half, Cell, cell, plain, hits, ends, single, cells, zero64, terms}
 use Rattle.rows.specs.Program.{equalities, inequalities, thermalFrom, thermalTo, secondOrder, everyRow, nonzero, quadratic}
 use Rattle.kkt.specs.Kkt.{arrow, kktRow, scaled, plainRow, boundRow, coneRow, coneBlock, kktOf}
@@ -22,6 +23,7 @@ use Rattle.numbering.specs.declared.ColumnName.the-variants.{Pg, Qg, W, Pf, Pt,
 use Rattle.numbering.specs.declared.RowName.{RowName}
 use Rattle.numbering.specs.declared.RowName.the-variants.{Pbal, Qbal, OhmPf, OhmQf, OhmPt, OhmQt, Wub, Wlb, Pgub, Pglb, Qgub, Qglb, Angub, Anglb, Segment, Jabr}
 use Rattle.rows.proofs.TermsUp.{terms-le}
+use Rattle.demand3.specs.Demand3.{entryBound}
 
 when-le : {A : Type 0} (b : Bool) (xs : List A) → length (when b xs) ≤ length xs
 when-le true xs = omega arith
@@ -266,11 +268,12 @@ module _ (G : AcNetwork Float) (s z : RowName → Float) where
   unfolding quadratic
   quadratic-le = each-le (G .k) 1 _ (λ g. when-le (ne (mul binary64 (rounded .two) (G .cq g)) zero64) (entry (columnNumber G (Pg g)) (columnNumber G (Pg g)) (mul binary64 (rounded .two) (G .cq g)) ∷ []))
 
-  pub kkt-count : length (kktOf G s z) ≤ 10 * G .n + 17 * G .k + 82 * G .m + 5 * sum (G .k) (G .segments) + 26 * limits G
+  pub kkt-count : sum (G .k) (G .segments) ≡ G .s → length (kktOf G s z) ≤ entryBound (layoutOf G)
   unfolding kktOf
-  kkt-count =
+  kkt-count added =
       omega (
         arith,
+        added,
         five (quadratic G) (map turned (everyRow G (plainRow G))) (equalities G (plainRow G)) (inequalities G (boundRow G s z)) (secondOrder G (coneBlock G s z)),
         quadratic-le,
         length-map (everyRow G (plainRow G)) turned,

@@ -17,7 +17,7 @@ use Rattle.rows.specs.Rows.{plain, one, minusOne, Cell, cell, hits, cells}
 use Rattle.interface.specs.declared.GB.{GB}
 use Rattle.interface.specs.declared.GB.the-variants.{Conductance, Susceptance}
 use Rattle.admittance.specs.Admittance.{shuntRow}
-use Rattle.rows.specs.Scaled.{scaled, sum, row}
+use Rattle.rows.specs.Scaled.{scaled, sumOver, row}
 use Rattle.derivatives.specs.Sums.{shuntTimes}
 use Rattle.derivatives.specs.Raised.{changed, moreAt, moreShunt}
 use Rattle.derivatives.specs.Derived.{ShuntHolds}
@@ -36,7 +36,7 @@ module _ {A : Type 0} (o : Ops A) (R : CommutativeRing o) where
 
   module _ (x : ColumnName → A) where
     abbrev all : List (Cell A) → A
-    all cs = sum o x (o .one) cs
+    all cs = sumOver o x (o .one) cs
 
     sum-append : (xs ys : List (Cell A)) → all (xs ++ ys) ≡ all xs + all ys
     sum-append [] ys = sym (zero-add o R (all ys))

@@ -26,13 +26,13 @@ module _ {A : Type 0} (o : Ops A) (x : ColumnName → A) (G : AcNetwork A) where
   open Ops o using (zero, _+_, _*_)
 
   -- of the series entries of branch e, those in its Ohm row r, times x
-  abbrev pub entries : ℕ → OhmRow → List (Slope A) → A
-  entries e r [] = zero
-  entries e r (s ∷ ss) =
-      cond (eqb (code (s .row)) (code r)) (scaled o (branchAt o G e .tm2) (s .value) * x (ohmColumn G (s .row) (s .place) e) + entries e r ss) (entries e r ss)
+  abbrev pub slopesAt : ℕ → OhmRow → List (Slope A) → A
+  slopesAt e r [] = zero
+  slopesAt e r (s ∷ ss) =
+      cond (eqb (code (s .row)) (code r)) (scaled o (branchAt o G e .tm2) (s .value) * x (ohmColumn G (s .row) (s .place) e) + slopesAt e r ss) (slopesAt e r ss)
 
   abbrev pub seriesRow : GB → ℕ → OhmRow → A
-  seriesRow gb e r = entries e r (series o (branchAt o G e .tr) (branchAt o G e .ti) gb)
+  seriesRow gb e r = slopesAt e r (series o (branchAt o G e .tr) (branchAt o G e .ti) gb)
 
   -- the shunt entry of bus i times x
   abbrev pub shuntTimes : GB → ℕ → A

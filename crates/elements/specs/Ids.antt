@@ -4,7 +4,7 @@ use mathlib.Core.Bool.{Bool, true}
 use mathlib.Core.List.{List}
 use lib.Dec.{ltb}
 use lib.Ieee.{Float}
-use Rattle.refusals.specs.Refusals.{_orElse_, refuseUnless, numberOf, valueOf}
+use Rattle.refusals.specs.Refusals.{_orElse_, refuseUnless, causeNumber, causeValue}
 use Rattle.refusals.specs.declared.Checked.{Checked}
 use Rattle.refusals.specs.declared.Checked.the-variants.{Accepted, Refused}
 use Rattle.refusals.specs.declared.Refusal.the-variants.{PastEnd}
@@ -47,8 +47,8 @@ elementValue (ElementId.Constraint index) = index
 
 abbrev pub idNumber : IdAnswer → ℕ
 idNumber (IdAnswer.Id id) = 0
-idNumber (IdAnswer.Refused cause) = numberOf cause
+idNumber (IdAnswer.Refused cause) = causeNumber cause
 
 abbrev pub idValue : IdAnswer → ℕ
 idValue (IdAnswer.Id id) = elementValue id
-idValue (IdAnswer.Refused cause) = valueOf cause
+idValue (IdAnswer.Refused cause) = causeValue cause

@@ -47,8 +47,8 @@ curve s = bytesAt 0 (1 ∷ []) (bytesAt 128 (3 ∷ []) (bytesAt 256 (3 ∷ 2 ∷
     segment (suc n) = 4 ∷ (replicate 127 0 ++ segment n)
 
 -- G: "vm_max 1.5, vm_min 0.5, active", of one bus: floats 4 and 5 are vm_min and vm_max
-abbrev pub bounded : List ℕ
-bounded = bytesAt 0 (1 ∷ 1 ∷ []) (floatAt 0 4 f05 (floatAt 0 5 f15 (replicate 128 0)))
+abbrev pub boundedBus : List ℕ
+boundedBus = bytesAt 0 (1 ∷ 1 ∷ []) (floatAt 0 4 f05 (floatAt 0 5 f15 (replicate 128 0)))
 
 -- H: "angmin -π, angmax π, flag set": Q with flag bit 1, floats 9 and 10
 abbrev pub wide : List ℕ

@@ -26,7 +26,7 @@ use Rattle.interface.specs.declared.Parameter.the-variants.{Demand, SeriesAdmit
 use Rattle.interface.specs.declared.Power.the-variants.{Active, Reactive}
 use Rattle.interface.specs.declared.GB.the-variants.{Conductance}
 use Rattle.columns.specs.Jacobian.{jacobian}
-use Rattle.examples.specs.Networks.{q, unlimited, curve, bounded, wide, tapped, buses}
+use Rattle.examples.specs.Networks.{q, unlimited, curve, boundedBus, wide, tapped, buses}
 
 abbrev pub Q : List ℕ → AcNetwork Float
 Q l = networkOf 2 1 1 0 l
@@ -50,9 +50,9 @@ abbrev pub bits : Float → ℕ
 bits v = toBits binary64 v
 
 -- the values at a place, in the list's order
-unfoldable pub valuesAt : ℕ → ℕ → List Entry → List ℕ
-valuesAt r c [] = []
-valuesAt r c (e ∷ es) = when (sits r c e) (bits (e .val) ∷ []) ++ valuesAt r c es
+unfoldable pub bitsAt : ℕ → ℕ → List Entry → List ℕ
+bitsAt r c [] = []
+bitsAt r c (e ∷ es) = when (sits r c e) (bits (e .val) ∷ []) ++ bitsAt r c es
 
 -- what the definitions give, at an x and a z where these are open, and what the document says
 pub record Example : Type 0 where
@@ -118,15 +118,15 @@ kktF x z = kkt (Q q) x (zF z)
 -- "Q, z 1 at rows 18 and 21: KKT row 28 has 0.5, 0.5 in column 2 and 0.5, -0.5 in column 3."
 unfoldable pub letterF : List Example
 letterF =
-    ((λ x z. valuesAt 28 2 (kktF x z)) always 0x3fe0000000000000 ∷ 0x3fe0000000000000 ∷ [])
-    ∷ ((λ x z. valuesAt 28 3 (kktF x z)) always 0x3fe0000000000000 ∷ 0xbfe0000000000000 ∷ [])
+    ((λ x z. bitsAt 28 2 (kktF x z)) always 0x3fe0000000000000 ∷ 0x3fe0000000000000 ∷ [])
+    ∷ ((λ x z. bitsAt 28 3 (kktF x z)) always 0x3fe0000000000000 ∷ 0xbfe0000000000000 ∷ [])
     ∷ []
 
 -- "vm_max 1.5, vm_min 0.5, active: b 2.25 and -0.25."
 unfoldable pub letterG : List Example
 letterG =
-    (checked 1 0 0 0 bounded is 0 ∷ 0 ∷ [])
-    ∷ (bits (b (networkOf 1 0 0 0 bounded) (Wub 0)) ∷ bits (b (networkOf 1 0 0 0 bounded) (Wlb 0)) ∷ [] is 0x4002000000000000 ∷ 0xbfd0000000000000 ∷ [])
+    (checked 1 0 0 0 boundedBus is 0 ∷ 0 ∷ [])
+    ∷ (bits (b (networkOf 1 0 0 0 boundedBus) (Wub 0)) ∷ bits (b (networkOf 1 0 0 0 boundedBus) (Wlb 0)) ∷ [] is 0x4002000000000000 ∷ 0xbfd0000000000000 ∷ [])
     ∷ []
 
 -- "angmin -π, angmax π, flag set: rows empty, b 1."

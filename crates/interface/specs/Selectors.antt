@@ -9,7 +9,7 @@ use Rattle.lists.specs.UpTo.{listed}
 use Rattle.refusals.specs.declared.Refusal.the-variants.{BadLists}
 use Rattle.refusals.specs.declared.Checked.{Checked}
 use Rattle.refusals.specs.declared.Checked.the-variants.{Accepted, Refused}
-use Rattle.refusals.specs.Refusals.{_orElse_, refuseUnless, roomFor, numberOf, valueOf}
+use Rattle.refusals.specs.Refusals.{_orElse_, refuseUnless, roomFor, causeNumber, causeValue}
 use Rattle.interface.specs.Scales.{one64}
 use Rattle.interface.specs.declared.Selected.{Selected}
 use Rattle.interface.specs.declared.Selected.the-variants as Selected
@@ -40,11 +40,11 @@ selectedIf (Refused cause) count sign = Selected.Refused cause
 -- the number, the value and the sign of an answer: 0, the count and the sign, or the cause's and 0.0
 abbrev pub selectedNumber : Selected → ℕ
 selectedNumber (Selected.Items count sign) = 0
-selectedNumber (Selected.Refused cause) = numberOf cause
+selectedNumber (Selected.Refused cause) = causeNumber cause
 
 abbrev pub selectedValue : Selected → ℕ
 selectedValue (Selected.Items count sign) = count
-selectedValue (Selected.Refused cause) = valueOf cause
+selectedValue (Selected.Refused cause) = causeValue cause
 
 abbrev pub selectedSign : Selected → Float
 selectedSign (Selected.Items count sign) = sign

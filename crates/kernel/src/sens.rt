@@ -26,7 +26,7 @@ ghost use Rattle.interface.specs.Codes.{parameterAt, operandAt, axisAt};
 ghost use Rattle.interface.specs.Selectors.{unitStarts, unitWeights, selectedNumber, selectedValue, selectedSign, selectedIf};
 ghost use Rattle.elements.specs.Lengths.{parameterLen, operandLen, parameterLenCheck, operandLenCheck};
 ghost use Rattle.columns.specs.Jacobian.{dim, jacobian, jacobianCheck};
-ghost use Rattle.operands.specs.Selector.{selectorCheck, selectorRows, selectorElements, selectorSign};
+ghost use Rattle.operands.specs.Selector.{operandCheck, selectorRows, selectorElements, selectorSign};
 ghost use Rattle.elements.specs.Ids.{elementValue, idNumber, idValue, idIf};
 ghost use Rattle.records.specs.Check.{checkOf};
 ghost use Rattle.refusals.specs.declared.Refusal.the-variants.{PastEnd};
@@ -234,11 +234,11 @@ pub extern "C" fn socwr_operand_selector(
     weights: &mut [f64],
     elements: &mut [u32],
 ) -> Selector
-    ensures { λ r. ⌜ SelectorAnswer (selectedIf (selectorCheck n m k s (now (records .entry)) (operandNamed (operandAt operand)) (length (now (starts .entry))) (length (now (rows .entry))) (length (now (weights .entry))) (length (now (elements .entry)))) (operandLen n m k (operandNamed (operandAt operand))) (selectorSign (operandNamed (operandAt operand)))) r ⌝ }
-    ensures { λ _. ⌜ now (starts .exit) ≡ leftIn (selectorCheck n m k s (now (records .entry)) (operandNamed (operandAt operand)) (length (now (starts .entry))) (length (now (rows .entry))) (length (now (weights .entry))) (length (now (elements .entry)))) (unitStarts (operandLen n m k (operandNamed (operandAt operand)))) (now (starts .entry)) ⌝ }
-    ensures { λ _. ⌜ now (rows .exit) ≡ leftIn (selectorCheck n m k s (now (records .entry)) (operandNamed (operandAt operand)) (length (now (starts .entry))) (length (now (rows .entry))) (length (now (weights .entry))) (length (now (elements .entry)))) (selectorRows (networkOf n m k s (now (records .entry))) (operandNamed (operandAt operand))) (now (rows .entry)) ⌝ }
-    ensures { λ _. ⌜ now (weights .exit) ≡ leftIn (selectorCheck n m k s (now (records .entry)) (operandNamed (operandAt operand)) (length (now (starts .entry))) (length (now (rows .entry))) (length (now (weights .entry))) (length (now (elements .entry)))) (unitWeights (operandLen n m k (operandNamed (operandAt operand)))) (now (weights .entry)) ⌝ }
-    ensures { λ _. ⌜ now (elements .exit) ≡ leftIn (selectorCheck n m k s (now (records .entry)) (operandNamed (operandAt operand)) (length (now (starts .entry))) (length (now (rows .entry))) (length (now (weights .entry))) (length (now (elements .entry)))) (selectorElements (operandLen n m k (operandNamed (operandAt operand)))) (now (elements .entry)) ⌝ }
+    ensures { λ r. ⌜ SelectorAnswer (selectedIf (operandCheck n m k s (now (records .entry)) (operandNamed (operandAt operand)) (length (now (starts .entry))) (length (now (rows .entry))) (length (now (weights .entry))) (length (now (elements .entry)))) (operandLen n m k (operandNamed (operandAt operand))) (selectorSign (operandNamed (operandAt operand)))) r ⌝ }
+    ensures { λ _. ⌜ now (starts .exit) ≡ leftIn (operandCheck n m k s (now (records .entry)) (operandNamed (operandAt operand)) (length (now (starts .entry))) (length (now (rows .entry))) (length (now (weights .entry))) (length (now (elements .entry)))) (unitStarts (operandLen n m k (operandNamed (operandAt operand)))) (now (starts .entry)) ⌝ }
+    ensures { λ _. ⌜ now (rows .exit) ≡ leftIn (operandCheck n m k s (now (records .entry)) (operandNamed (operandAt operand)) (length (now (starts .entry))) (length (now (rows .entry))) (length (now (weights .entry))) (length (now (elements .entry)))) (selectorRows (networkOf n m k s (now (records .entry))) (operandNamed (operandAt operand))) (now (rows .entry)) ⌝ }
+    ensures { λ _. ⌜ now (weights .exit) ≡ leftIn (operandCheck n m k s (now (records .entry)) (operandNamed (operandAt operand)) (length (now (starts .entry))) (length (now (rows .entry))) (length (now (weights .entry))) (length (now (elements .entry)))) (unitWeights (operandLen n m k (operandNamed (operandAt operand)))) (now (weights .entry)) ⌝ }
+    ensures { λ _. ⌜ now (elements .exit) ≡ leftIn (operandCheck n m k s (now (records .entry)) (operandNamed (operandAt operand)) (length (now (starts .entry))) (length (now (rows .entry))) (length (now (weights .entry))) (length (now (elements .entry)))) (selectorElements (operandLen n m k (operandNamed (operandAt operand)))) (now (elements .entry)) ⌝ }
 {
     let o = operand_named(operand);
     selector_answer(operands::operand_selector(

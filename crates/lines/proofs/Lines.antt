@@ -1,5 +1,5 @@
 -- The lines of each kind stand for the rows of the network. Assumes nothing.
-use Prim.Native.Nat.{ℕ, zero, suc, _+_, _*_, _^_, _<_, _≤_}
+use Prim.Native.Nat.{ℕ, zero, suc, _+_, _<_, _≤_}
 use mathlib.Core.Path.{_≡_, refl, ap, _∙_}
 use mathlib.Core.Bool.{Bool, true, false, _&&_, cond}
 use mathlib.Core.List.{List, [], _∷_, _++_, map}
@@ -20,14 +20,14 @@ use Rattle.numbering.specs.declared.ColumnName.{ColumnName}
 use Rattle.numbering.specs.declared.ColumnName.the-variants.{Pg, Qg, W, Wr, Wi, Pf, Pt, Qf, Qt, CostOf}
 use Rattle.numbering.specs.declared.RowName.{RowName}
 use Rattle.numbering.specs.declared.RowName.the-variants.{Wub, Wlb, Pgub, Pglb, Qgub, Qglb, Angub, Anglb, Segment, Jabr, Thermal}
-use Rattle.numbering.proofs.Numbers.{HasColumn, HasRow, column-below, row-below, row-number}
-use Rattle.numbering.proofs.Laid.{limits-are, curves-are, laid-column, laid-row, laid-cost, laid-segment, laid-thermal, laid-few}
+use Rattle.numbering.proofs.Numbers.{HasColumn, HasRow, column-below, row-below}
+use Rattle.numbering.proofs.Laid.{limits-are, curves-are, laid-column, laid-row, laid-cost, laid-segment, laid-thermal}
 use Rattle.rows.specs.Rows.{term, terms, b, zero64, constant64, Constant, one, minusOne, half, minusHalf, kept}
 use Rattle.rows.specs.Program.{thermalFrom, thermalTo}
 use Rattle.rows.proofs.Shape.{written-when, endTerms, jabr-first, jabr-last}
 use Rattle.records.proofs.Sound.{sound}
 use Rattle.records.proofs.Segments.{segments-fit}
-use Rattle.lines.specs.Line.{lineAt, Within, Stands, spot, line, single, ends, coneLine, ConeStands, thermal}
+use Rattle.lines.specs.Line.{lineAt, Within, Stands, spot, line, singleLine, endsLine, coneLine, ConeStands, thermal}
 use Rattle.lines.specs.declared.Cone.{Cone}
 use Rattle.lines.specs.declared.Line.{Line}
 
@@ -39,7 +39,7 @@ module _ (l : SocWrLayout) (bytes : List ℕ) (h : Laid l bytes) where
   one-term : (x : RowName) (c : ColumnName) (k : Constant) (on : Bool) (v : Float) {row col : ℕ} → row ≡ rowNumber G x → col ≡ columnNumber G c
       → ((r : ℕ) (f : Float → Float) → map (λ t. entry r (columnNumber G (t .col)) (f (t .coef))) (terms G x) ≡ map (λ t. entry r (columnNumber G (t .col)) (f (t .coef))) (when on (term c (constant64 k) ∷ [])))
       → v ≡ b G x → HasRow G x → HasColumn G c
-      → Stands G x (single row v on col (constant64 k))
+      → Stands G x (singleLine row v on col (constant64 k))
   unfolding lineAt
   one-term x c k on v hr hc e p dr dc =
       rw (hr, hc)
@@ -55,32 +55,32 @@ module _ (l : SocWrLayout) (bytes : List ℕ) (h : Laid l bytes) where
       go false r f = refl
 
   pub wub-stands : (i : ℕ) → i < l .n → Stands G (Wub i)
-      (single (layoutRow l (Wub i)) (b G (Wub i)) (voltageBoundOf bytes i) (layoutColumn l (W i)) (constant64 one))
+      (singleLine (layoutRow l (Wub i)) (b G (Wub i)) (voltageBoundOf bytes i) (layoutColumn l (W i)) (constant64 one))
   unfolding terms b
   wub-stands i d = one-term (Wub i) (W i) one (voltageBoundOf bytes i) _ (laid-row l bytes h (Wub i) refl) (laid-column l bytes h (W i) refl) (λ r f. rw written-when) refl d d
 
   pub wlb-stands : (i : ℕ) → i < l .n → Stands G (Wlb i)
-      (single (layoutRow l (Wlb i)) (b G (Wlb i)) (voltageBoundOf bytes i) (layoutColumn l (W i)) (constant64 minusOne))
+      (singleLine (layoutRow l (Wlb i)) (b G (Wlb i)) (voltageBoundOf bytes i) (layoutColumn l (W i)) (constant64 minusOne))
   unfolding terms b
   wlb-stands i d = one-term (Wlb i) (W i) minusOne (voltageBoundOf bytes i) _ (laid-row l bytes h (Wlb i) refl) (laid-column l bytes h (W i) refl) (λ r f. rw written-when) refl d d
 
   pub pgub-stands : (g : ℕ) → g < l .k → Stands G (Pgub g)
-      (single (layoutRow l (Pgub g)) (b G (Pgub g)) (capabilityOf bytes (l .n + l .m + g)) (layoutColumn l (Pg g)) (constant64 one))
+      (singleLine (layoutRow l (Pgub g)) (b G (Pgub g)) (capabilityOf bytes (l .n + l .m + g)) (layoutColumn l (Pg g)) (constant64 one))
   unfolding terms b
   pgub-stands g d = one-term (Pgub g) (Pg g) one (capabilityOf bytes (l .n + l .m + g)) _ (laid-row l bytes h (Pgub g) refl) (laid-column l bytes h (Pg g) refl) (λ r f. rw written-when) refl d d
 
   pub pglb-stands : (g : ℕ) → g < l .k → Stands G (Pglb g)
-      (single (layoutRow l (Pglb g)) (b G (Pglb g)) (capabilityOf bytes (l .n + l .m + g)) (layoutColumn l (Pg g)) (constant64 minusOne))
+      (singleLine (layoutRow l (Pglb g)) (b G (Pglb g)) (capabilityOf bytes (l .n + l .m + g)) (layoutColumn l (Pg g)) (constant64 minusOne))
   unfolding terms b
   pglb-stands g d = one-term (Pglb g) (Pg g) minusOne (capabilityOf bytes (l .n + l .m + g)) _ (laid-row l bytes h (Pglb g) refl) (laid-column l bytes h (Pg g) refl) (λ r f. rw written-when) refl d d
 
   pub qgub-stands : (g : ℕ) → g < l .k → Stands G (Qgub g)
-      (single (layoutRow l (Qgub g)) (b G (Qgub g)) (capabilityOf bytes (l .n + l .m + g)) (layoutColumn l (Qg g)) (constant64 one))
+      (singleLine (layoutRow l (Qgub g)) (b G (Qgub g)) (capabilityOf bytes (l .n + l .m + g)) (layoutColumn l (Qg g)) (constant64 one))
   unfolding terms b
   qgub-stands g d = one-term (Qgub g) (Qg g) one (capabilityOf bytes (l .n + l .m + g)) _ (laid-row l bytes h (Qgub g) refl) (laid-column l bytes h (Qg g) refl) (λ r f. rw written-when) refl d d
 
   pub qglb-stands : (g : ℕ) → g < l .k → Stands G (Qglb g)
-      (single (layoutRow l (Qglb g)) (b G (Qglb g)) (capabilityOf bytes (l .n + l .m + g)) (layoutColumn l (Qg g)) (constant64 minusOne))
+      (singleLine (layoutRow l (Qglb g)) (b G (Qglb g)) (capabilityOf bytes (l .n + l .m + g)) (layoutColumn l (Qg g)) (constant64 minusOne))
   unfolding terms b
   qglb-stands g d = one-term (Qglb g) (Qg g) minusOne (capabilityOf bytes (l .n + l .m + g)) _ (laid-row l bytes h (Qglb g) refl) (laid-column l bytes h (Qg g) refl) (λ r f. rw written-when) refl d d
 
@@ -166,8 +166,8 @@ module _ (l : SocWrLayout) (bytes : List ℕ) (h : Laid l bytes) where
   ordered p f u r v = cond p (line r zero64 (spot true f (constant64 minusHalf)) (spot true u v)) (line r zero64 (spot true u v) (spot true f (constant64 minusHalf)))
 
   ends-stand : (x : RowName) (e : ℕ) (k : Constant) {row : ℕ} → e < l .m → row ≡ rowNumber G x → terms G x ≡ endTerms G e minusHalf k → zero64 ≡ b G x → HasRow G x
-      → Stands G x (ends l (G .from e) (G .to e) row (constant64 k))
-  unfolding endTerms ends lineAt
+      → Stands G x (endsLine l (G .from e) (G .to e) row (constant64 k))
+  unfolding endTerms endsLine lineAt
   ends-stand x e k d hr ht hb dr =
       rw (hr, laid-column l bytes h (W (G .from e)) refl, laid-column l bytes h (W (G .to e)) refl)
       (record {
@@ -212,25 +212,16 @@ module _ (l : SocWrLayout) (bytes : List ℕ) (h : Laid l bytes) where
   four P x y z w (suc (suc (suc zero))) p = w
   four P x y z w (suc (suc (suc (suc q)))) p = absurd (omega arith)
 
-  -- the rows of a cone follow each other
-  jabr-next : (e q : ℕ) → rowNumber G (Jabr e 0) + q ≡ rowNumber G (Jabr e q)
-  jabr-next e q = omega (arith, row-number G (Jabr e 0), row-number G (Jabr e q))
-
-  thermal-next : (e p q r : ℕ) → p + q ≡ r → rowNumber G (Thermal e p) + q ≡ rowNumber G (Thermal e r)
-  thermal-next e p q r s = omega (arith, row-number G (Thermal e p), row-number G (Thermal e r))
-
-  pub jabr-fits : (e row : ℕ) → e < l .m → row ≡ layoutRow l (Jabr e 0) → row + 3 < 2 ^ 32
-  jabr-fits e row d hr = omega (arith, hr ∙ laid-row l bytes h (Jabr e 0) refl, jabr-next e 3, row-below G (Jabr e 3) (d, omega arith), laid-few l bytes h)
-
-  pub jabr-stands : (e row : ℕ) → e < l .m → row ≡ layoutRow l (Jabr e 0) → (c : Cone)
-      → c .a ≡ ends l (G .from e) (G .to e) row (constant64 minusHalf) → c .b ≡ single (row + 1) zero64 true (layoutColumn l (Wr e)) (constant64 minusOne)
-      → c .c ≡ single (row + 2) zero64 true (layoutColumn l (Wi e)) (constant64 minusOne) → c .d ≡ ends l (G .from e) (G .to e) (row + 3) (constant64 half)
+  pub jabr-stands : (e : ℕ) → e < l .m → (c : Cone)
+      → c .a ≡ endsLine l (G .from e) (G .to e) (layoutRow l (Jabr e 0)) (constant64 minusHalf)
+      → c .b ≡ singleLine (layoutRow l (Jabr e 1)) zero64 true (layoutColumn l (Wr e)) (constant64 minusOne)
+      → c .c ≡ singleLine (layoutRow l (Jabr e 2)) zero64 true (layoutColumn l (Wi e)) (constant64 minusOne)
+      → c .d ≡ endsLine l (G .from e) (G .to e) (layoutRow l (Jabr e 3)) (constant64 half)
       → ConeStands G 4 (Jabr e) c
   unfolding terms b
-  jabr-stands e row d hl c ea eb ec ed =
-      let hr : row ≡ rowNumber G (Jabr e 0) = hl ∙ laid-row l bytes h (Jabr e 0) refl in
-      let at : (q : ℕ) → row + q ≡ rowNumber G (Jabr e q) = λ q. rw hr (jabr-next e q) in
-      let A : Stands G (Jabr e 0) (c .a) = rw ea (ends-stand (Jabr e 0) e minusHalf d hr (jabr-first G e) refl (d, omega arith)) in
+  jabr-stands e d c ea eb ec ed =
+      let at : (q : ℕ) → layoutRow l (Jabr e q) ≡ rowNumber G (Jabr e q) = λ q. laid-row l bytes h (Jabr e q) refl in
+      let A : Stands G (Jabr e 0) (c .a) = rw ea (ends-stand (Jabr e 0) e minusHalf d (at 0) (jabr-first G e) refl (d, omega arith)) in
       let B : Stands G (Jabr e 1) (c .b) = rw eb (one-term (Jabr e 1) (Wr e) minusOne true zero64 (at 1) (laid-column l bytes h (Wr e) refl) (λ r f. refl) refl (d, omega arith) d) in
       let C : Stands G (Jabr e 2) (c .c) = rw ec (one-term (Jabr e 2) (Wi e) minusOne true zero64 (at 2) (laid-column l bytes h (Wi e) refl) (λ r f. refl) refl (d, omega arith) d) in
       let D : Stands G (Jabr e 3) (c .d) = rw ed (ends-stand (Jabr e 3) e half d (at 3) (jabr-last G e) refl (d, omega arith)) in
@@ -244,26 +235,26 @@ module _ (l : SocWrLayout) (bytes : List ℕ) (h : Laid l bytes) where
 
   -- no term
   none-there : (x : RowName) (c : ColumnName) (w v : Float) {row col : ℕ} → row ≡ rowNumber G x → col ≡ columnNumber G c → terms G x ≡ [] → v ≡ b G x → HasRow G x → HasColumn G c
-      → Stands G x (single row v false col w)
+      → Stands G x (singleLine row v false col w)
   unfolding lineAt
   none-there x c w v hr hc e p dr dc =
       rw (hr, hc)
       (record { number = refl; rhs = p; entries = λ r f. rw e; within = record { row = row-below G x dr; first = column-below G c dc; second = column-below G c dc } })
 
-  -- the rows x of a thermal cone from row on, with the flows p and q at the columns i and j
-  thermal-cone : (x : ℕ → RowName) (p q : ColumnName) (rate : Float) (row i j : ℕ)
-      → ((u : ℕ) → row + u ≡ rowNumber G (x u)) → i ≡ columnNumber G p → j ≡ columnNumber G q → ((u : ℕ) → u < 3 → HasRow G (x u)) → HasColumn G p → HasColumn G q
+  -- the rows x of a thermal cone at these numbers, with the flows p and q at the columns i and j
+  thermal-cone : (x : ℕ → RowName) (p q : ColumnName) (rate : Float) (row : ℕ → ℕ) (i j : ℕ)
+      → ((u : ℕ) → row u ≡ rowNumber G (x u)) → i ≡ columnNumber G p → j ≡ columnNumber G q → ((u : ℕ) → u < 3 → HasRow G (x u)) → HasColumn G p → HasColumn G q
       → terms G (x 0) ≡ [] → terms G (x 1) ≡ term p (constant64 minusOne) ∷ [] → terms G (x 2) ≡ term q (constant64 minusOne) ∷ []
       → rate ≡ b G (x 0) → zero64 ≡ b G (x 1) → zero64 ≡ b G (x 2)
-      → ConeStands G 3 x (thermal row rate i j)
+      → ConeStands G 3 x (thermal (row 0) (row 1) (row 2) rate i j)
   thermal-cone x p q rate row i j at hi hj dx dp dq t0 t1 t2 b0 b1 b2 =
-      let A : Stands G (x 0) (T .a) = none-there (x 0) p zero64 rate (omega (arith, at 0)) hi t0 b0 (dx 0 (omega arith)) dp in
+      let A : Stands G (x 0) (T .a) = none-there (x 0) p zero64 rate (at 0) hi t0 b0 (dx 0 (omega arith)) dp in
       let B : Stands G (x 1) (T .b) = one-term (x 1) p minusOne true zero64 (at 1) hi (λ r f. rw t1) b1 (dx 1 (omega arith)) dp in
       let C : Stands G (x 2) (T .c) = one-term (x 2) q minusOne true zero64 (at 2) hj (λ r f. rw t2) b2 (dx 2 (omega arith)) dq in
       record { lines = three A B C; within = every (A .within) (B .within) (C .within) }
     where
       T : Cone
-      T = thermal row rate i j
+      T = thermal (row 0) (row 1) (row 2) rate i j
 
       three : Stands G (x 0) (T .a) → Stands G (x 1) (T .b) → Stands G (x 2) (T .c) → (j : ℕ) → j < 3 → Stands G (x j) (coneLine T j)
       three A B C zero d = A
@@ -278,36 +269,34 @@ module _ (l : SocWrLayout) (bytes : List ℕ) (h : Laid l bytes) where
       every A B C (suc (suc (suc j))) = C
 
   -- the layout's row of a limited branch, by the count of those before it, is the network's
-  thermal-at : (e q row limits : ℕ) → row ≡ layoutRow l (Thermal limits q) → limits ≡ count e (G .limited) → row ≡ rowNumber G (Thermal e q)
-  thermal-at e q row limits hr hl = hr ∙ rw hl (laid-thermal l bytes h e q)
+  thermal-at : (e limits q : ℕ) → limits ≡ count e (G .limited) → layoutRow l (Thermal limits q) ≡ rowNumber G (Thermal e q)
+  thermal-at e limits q hl = rw hl (laid-thermal l bytes h e q)
 
-  pub thermal-fits : (e q row limits : ℕ) → e < l .m → G .limited e ≡ true → q + 2 < 6 → row ≡ layoutRow l (Thermal limits q) → limits ≡ count e (G .limited) → row + 2 < 2 ^ 32
-  thermal-fits e q row limits d on k hr hl =
-      omega (arith, thermal-at e q row limits hr hl, thermal-next e q 2 (q + 2) refl, row-below G (Thermal e (q + 2)) (d, on, k), laid-few l bytes h)
-
-  pub from-stands : (e row limits : ℕ) → e < l .m → G .limited e ≡ true → row ≡ layoutRow l (Thermal limits 0) → limits ≡ count e (G .limited)
-      → ConeStands G 3 (thermalFrom e) (thermal row (rateAOf bytes (l .n + e)) (layoutColumn l (Pf e)) (layoutColumn l (Qf e)))
+  pub from-stands : (e limits : ℕ) → e < l .m → G .limited e ≡ true → limits ≡ count e (G .limited)
+      → ConeStands G 3 (thermalFrom e)
+      (thermal (layoutRow l (Thermal limits 0)) (layoutRow l (Thermal limits 1)) (layoutRow l (Thermal limits 2)) (rateAOf bytes (l .n + e)) (layoutColumn l (Pf e)) (layoutColumn l (Qf e)))
   unfolding terms b
-  from-stands e row limits d on hr hl =
-      thermal-cone (thermalFrom e) (Pf e) (Qf e) _ row _ _ (λ u. rw (thermal-at e 0 row limits hr hl) (thermal-next e 0 u u (omega arith))) (laid-column l bytes h (Pf e) refl) (laid-column l bytes h (Qf e) refl)
+  from-stands e limits d on hl =
+      thermal-cone (thermalFrom e) (Pf e) (Qf e) _ (λ u. layoutRow l (Thermal limits u)) _ _ (λ u. thermal-at e limits u hl) (laid-column l bytes h (Pf e) refl) (laid-column l bytes h (Qf e) refl)
       (λ u k. (d, on, omega arith)) d d refl refl refl refl refl refl
 
-  pub to-stands : (e row limits : ℕ) → e < l .m → G .limited e ≡ true → row ≡ layoutRow l (Thermal limits 3) → limits ≡ count e (G .limited)
-      → ConeStands G 3 (thermalTo e) (thermal row (rateAOf bytes (l .n + e)) (layoutColumn l (Pt e)) (layoutColumn l (Qt e)))
+  pub to-stands : (e limits : ℕ) → e < l .m → G .limited e ≡ true → limits ≡ count e (G .limited)
+      → ConeStands G 3 (thermalTo e)
+      (thermal (layoutRow l (Thermal limits 3)) (layoutRow l (Thermal limits 4)) (layoutRow l (Thermal limits 5)) (rateAOf bytes (l .n + e)) (layoutColumn l (Pt e)) (layoutColumn l (Qt e)))
   unfolding terms b
-  to-stands e row limits d on hr hl =
-      thermal-cone (thermalTo e) (Pt e) (Qt e) _ row _ _ (λ u. rw (thermal-at e 3 row limits hr hl) (thermal-next e 3 u (3 + u) refl)) (laid-column l bytes h (Pt e) refl) (laid-column l bytes h (Qt e) refl)
+  to-stands e limits d on hl =
+      thermal-cone (thermalTo e) (Pt e) (Qt e) _ (λ u. layoutRow l (Thermal limits (3 + u))) _ _ (λ u. thermal-at e limits (3 + u) hl) (laid-column l bytes h (Pt e) refl) (laid-column l bytes h (Qt e) refl)
       (λ u k. (d, on, omega arith)) d d refl refl refl refl refl refl
 
 -- what a line's and a cone's tests pick
 pub ends-up : (l : SocWrLayout) (f t r : ℕ) (v : Float) → f < t
-    → ends l f t r v ≡ line r zero64 (spot true (layoutColumn l (W f)) (constant64 minusHalf)) (spot true (layoutColumn l (W t)) v)
-unfolding ends
+    → endsLine l f t r v ≡ line r zero64 (spot true (layoutColumn l (W f)) (constant64 minusHalf)) (spot true (layoutColumn l (W t)) v)
+unfolding endsLine
 ends-up l f t r v h = rw (lt-ltb f t h)
 
 pub ends-down : (l : SocWrLayout) (f t r : ℕ) (v : Float) → t ≤ f
-    → ends l f t r v ≡ line r zero64 (spot true (layoutColumn l (W t)) v) (spot true (layoutColumn l (W f)) (constant64 minusHalf))
-unfolding ends
+    → endsLine l f t r v ≡ line r zero64 (spot true (layoutColumn l (W t)) v) (spot true (layoutColumn l (W f)) (constant64 minusHalf))
+unfolding endsLine
 ends-down l f t r v h = rw (le-ltb f t h)
 
 pub last-line : (c : Cone) (q : ℕ) → (q ≡ 0 → ⊥) → (q ≡ 1 → ⊥) → (q ≡ 2 → ⊥) → c .d ≡ coneLine c q

@@ -20,7 +20,7 @@ use Rattle.numbering.proofs.Numbers.{row-below}
 use Rattle.numbering.proofs.Laid.{laid-column}
 use Rattle.rows.specs.Rows.{terms, term, kept, zero64, constant64, one, OhmRow, pf, qf, pt, qt, w, wr, wi, ohmValue, ohmRow, flowColumn, endBus}
 use Rattle.rows.specs.Program.{inRow, nonzero}
-use Rattle.lines.specs.Ohm.{ohmOf, ohmAt, OhmStands}
+use Rattle.lines.specs.Ohm.{ohmOf, ohmEntries, OhmStands}
 
 module _ (G : AcNetwork Float) (r : ℕ) where
   in-kept : (c : ColumnName) (v : Float) → inRow G r (kept c v) ≡ nonzero r (columnNumber G c) v
@@ -47,7 +47,7 @@ module _ (l : SocWrLayout) (bytes : List ℕ) (h : Laid l bytes) where
   -- each row by its own case: its terms compute to the four
   pub ohm-stands : (k : OhmRow) (e : ℕ) → e < l .m → OhmStands G (ohmRow k e)
       (ohmOf l e (endBus G k e) (rowNumber G (ohmRow k e)) (columnNumber G (flowColumn k e)) (ohmValue (branchAt rounded G e) k w) (ohmValue (branchAt rounded G e) k wr) (ohmValue (branchAt rounded G e) k wi))
-  unfolding terms ohmAt ohmValue
+  unfolding terms ohmEntries ohmValue
   ohm-stands pf e d = let q = columns (G .from e) e in record { number = refl; entries = λ r. rw (q .0, q .1, q .2) (in-four G r (W (G .from e)) (Wr e) (Wi e) (Pf e) _ _ _); within = row-below G (OhmPf e) d }
   ohm-stands qf e d = let q = columns (G .from e) e in record { number = refl; entries = λ r. rw (q .0, q .1, q .2) (in-four G r (W (G .from e)) (Wr e) (Wi e) (Qf e) _ _ _); within = row-below G (OhmQf e) d }
   ohm-stands pt e d = let q = columns (G .to e) e in record { number = refl; entries = λ r. rw (q .0, q .1, q .2) (in-four G r (W (G .to e)) (Wr e) (Wi e) (Pt e) _ _ _); within = row-below G (OhmPt e) d }

@@ -1,5 +1,5 @@
 -- Rows of the program that have at most two terms, as numbers: every row but those of the zero cone.
-use Prim.Native.Nat.{ℕ, _+_, _<_}
+use Prim.Native.Nat.{ℕ, _<_}
 use mathlib.Core.Path.{_≡_}
 use mathlib.Core.Bool.{Bool, true, false, cond}
 use mathlib.Core.List.{List, [], _∷_, _++_, map}
@@ -58,12 +58,12 @@ spot on c v = record { on = on; col = c; val = v }
 abbrev pub line : ℕ → Float → Spot → Spot → Line
 line r b s t = record { row = r; rhs = b; first = s; second = t }
 
-abbrev pub single : ℕ → Float → Bool → ℕ → Float → Line
-single r b on c v = line r b (spot false c v) (spot on c v)
+abbrev pub singleLine : ℕ → Float → Bool → ℕ → Float → Line
+singleLine r b on c v = line r b (spot false c v) (spot on c v)
 
 -- two terms at the columns of the buses f and t, the smaller number first
-unfoldable pub ends : SocWrLayout → ℕ → ℕ → ℕ → Float → Line
-ends l f t r v =
+unfoldable pub endsLine : SocWrLayout → ℕ → ℕ → ℕ → Float → Line
+endsLine l f t r v =
     cond (ltb f t)
     (line r zero64 (spot true (layoutColumn l (W f)) (constant64 minusHalf)) (spot true (layoutColumn l (W t)) v))
     (line r zero64 (spot true (layoutColumn l (W t)) v) (spot true (layoutColumn l (W f)) (constant64 minusHalf)))
@@ -77,12 +77,12 @@ pub record ConeStands (G : AcNetwork Float) (d : ℕ) (x : ℕ → RowName) (c :
   pub lines : (l : ℕ) → l < d → Stands G (x l) (coneLine c l)
   pub within : (l : ℕ) → Within (nvar G) (ncon G) (coneLine c l)
 
--- the three rows of a thermal cone from row r on
-abbrev pub thermal : ℕ → Float → ℕ → ℕ → Cone
-thermal r rate p q =
+-- the three rows of a thermal cone
+abbrev pub thermal : ℕ → ℕ → ℕ → Float → ℕ → ℕ → Cone
+thermal first second third rate p q =
     record {
-      a = single r rate false p zero64;
-      b = single (r + 1) zero64 true p (constant64 minusOne);
-      c = single (r + 2) zero64 true q (constant64 minusOne);
-      d = single (r + 2) zero64 true q (constant64 minusOne);
+      a = singleLine first rate false p zero64;
+      b = singleLine second zero64 true p (constant64 minusOne);
+      c = singleLine third zero64 true q (constant64 minusOne);
+      d = singleLine third zero64 true q (constant64 minusOne);
     }

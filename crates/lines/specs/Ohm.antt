@@ -29,11 +29,11 @@ ohmOf l e bus r flow x y z =
     }
 
 -- its entries in row r
-unfoldable pub ohmAt : ℕ → Ohm → List Entry
-ohmAt r o = nonzero r (o .w) (o .«at_w») ++ nonzero r (o .wr) (o .«at_wr») ++ nonzero r (o .wi) (o .«at_wi») ++ (entry r (o .flow) (constant64 one) ∷ [])
+unfoldable pub ohmEntries : ℕ → Ohm → List Entry
+ohmEntries r o = nonzero r (o .w) (o .«at_w») ++ nonzero r (o .wr) (o .«at_wr») ++ nonzero r (o .wi) (o .«at_wi») ++ (entry r (o .flow) (constant64 one) ∷ [])
 
 -- it is row x of the network
 pub record OhmStands (G : AcNetwork Float) (x : RowName) (o : Ohm) : Type 0 where
   pub number : o .row ≡ rowNumber G x
-  pub entries : (r : ℕ) → inRow G r (terms G x) ≡ ohmAt r o
+  pub entries : (r : ℕ) → inRow G r (terms G x) ≡ ohmEntries r o
   pub within : o .row < ncon G

@@ -2,7 +2,7 @@
 use crate::Line;
 use crate::Spot;
 ghost use mathlib.Core.Path.{_≡_};
-ghost use Rattle.lines.specs.Line.{spot as spotOf, line as lineOf, single as singleOf};
+ghost use Rattle.lines.specs.Line.{spot as spotOf, line as lineOf, singleLine as singleOf};
 
 pub mod angles;
 pub mod buses;

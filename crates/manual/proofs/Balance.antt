@@ -12,10 +12,10 @@ use Rattle.ring.proofs.Laws.{zero-add, mul-zero}
 use Rattle.ring.proofs.Ring.{E, var, zeroᴱ, oneᴱ, plus, times, opposite, formal, ring}
 use Rattle.rows.specs.Rows.{Coefficient, plain, constant, Constant, one, minusOne, Cell, cell, hits}
 use Rattle.records.specs.AcNetwork.{AcNetwork}
-use Rattle.rows.specs.Scaled.{scaled, sum}
+use Rattle.rows.specs.Scaled.{scaled, sumOver}
 use Rattle.manual.specs.Matpower.{Complex, _⊕_, _⊗_, conj, real, minus}
 use Rattle.manual.specs.Slack.{slack}
-use Rattle.manual.specs.Balance.{sumTo, joined, mismatch}
+use Rattle.manual.specs.Balance.{sumTo, connected, mismatch}
 use Rattle.manual.proofs.Formal.{complexF}
 use Rattle.numbering.specs.declared.ColumnName.{ColumnName}
 use Rattle.numbering.specs.declared.ColumnName.the-variants.{Pg, Qg, W, Pf, Pt, Qf, Qt}
@@ -54,7 +54,7 @@ module _ {A : Type 0} (o : Ops A) (R : CommutativeRing o) (G : AcNetwork A) (x :
   open Ops o using (_+_, _-_, _*_)
 
   total : List (Cell A) → A
-  total ws = sum o x (o .one) ws
+  total ws = sumOver o x (o .one) ws
 
   total-append : (us vs : List (Cell A)) → total (us ++ vs) ≡ total us + total vs
   unfolding total
@@ -70,17 +70,17 @@ module _ {A : Type 0} (o : Ops A) (R : CommutativeRing o) (G : AcNetwork A) (x :
   one-each false c l = ring o R zeroᴱ (times (var 0) (times zeroᴱ (var 1))) (scaled o (o .one) c ∷ x l ∷ []) tt
 
   total-each : (n : ℕ) (s : ℕ → ℕ) (i : ℕ) (col : ℕ → ColumnName) (c : Constant)
-      → total (hits o G n s i col c) ≡ scaled o (o .one) (constant c) * sumTo o n (λ j. joined o s i j * x (col j))
+      → total (hits o G n s i col c) ≡ scaled o (o .one) (constant c) * sumTo o n (λ j. connected o s i j * x (col j))
   unfolding total upTo
   total-each zero s i col c = sym (mul-zero o R (scaled o (o .one) (constant c)))
   total-each (suc n) s i col c =
       total-append (hits o G n s i col c) (when (eqb (s n) i) (cell (col n) (constant c) ∷ []))
       ∙ ap₂ _+_ (total-each n s i col c) (one-each (eqb (s n) i) (constant c) (col n))
-      ∙ sym (R .mul-add (scaled o (o .one) (constant c)) (sumTo o n (λ j. joined o s i j * x (col j))) (cond (eqb (s n) i) (o .one) (o .zero) * x (col n)))
+      ∙ sym (R .mul-add (scaled o (o .one) (constant c)) (sumTo o n (λ j. connected o s i j * x (col j))) (cond (eqb (s n) i) (o .one) (o .zero) * x (col n)))
 
   module _ (i : ℕ) where
     abbrev at : (ℕ → ℕ) → ℕ → (ℕ → ColumnName) → A
-    at s n col = sumTo o n (λ j. joined o s i j * x (col j))
+    at s n col = sumTo o n (λ j. connected o s i j * x (col j))
 
     total-bus : (gens : ℕ → ColumnName) (shunt : A) (froms tos : ℕ → ColumnName)
         → total (hits o G (G .k) (G .genBus) i gens one ++ (cell (W i) (plain shunt) ∷ []) ++ hits o G (G .m) (G .from) i froms minusOne ++ hits o G (G .m) (G .to) i tos minusOne)

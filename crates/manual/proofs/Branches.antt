@@ -4,7 +4,7 @@ use mathlib.Core.List.{List, [], _∷_}
 use Rattle.ring.specs.Ops.{Ops}
 use Rattle.ring.specs.Laws.{CommutativeRing}
 use Rattle.ring.proofs.Ring.{E, formal, Same, den, ring}
-use Rattle.manual.specs.Matpower.{Complex, complex, Line, Entry, ff, ft, tf, tt′, left, right, real, square, conj, _⊗_}
+use Rattle.manual.specs.Matpower.{Complex, complex, Line, YbrEntry, ff, ft, tf, tt′, left, right, real, square, conj, _⊗_}
 use Rattle.manual.proofs.Formal.{complexF, lineF}
 
 -- cos² + sin², and a complex number times it
@@ -45,7 +45,7 @@ module _ {A : Type 0} (o : Ops A) (R : CommutativeRing o) where
   unnormed l z h =
       λ i. record { re = (ap (λ t. o ._*_ (z .re) t) h ∙ R .mul-one (z .re)) i; im = (ap (λ t. o ._*_ (z .im) t) h ∙ R .mul-one (z .im)) i }
 
-  pub branch-law : (l : Line A) → norm o l ≡ o .one → (e : Entry) → left o l e ≡ right o l e
+  pub branch-law : (l : Line A) → norm o l ≡ o .one → (e : YbrEntry) → left o l e ≡ right o l e
   branch-law l h ff = by-parts l (left formal lineF ff) (right formal lineF ff) tt tt
   branch-law l h ft = sym (by-parts l (right formal lineF ft) (normed formal lineF (left formal lineF ft)) tt tt ∙ unnormed l (left o l ft) h)
   branch-law l h tf = sym (by-parts l (right formal lineF tf) (normed formal lineF (left formal lineF tf)) tt tt ∙ unnormed l (left o l tf) h)

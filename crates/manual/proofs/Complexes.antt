@@ -12,7 +12,7 @@ use Rattle.ring.specs.Laws.{CommutativeRing, Cancels}
 use Rattle.ring.proofs.Laws.{equal-less, less-equal}
 use Rattle.ring.proofs.Ring.{E, var, zeroᴱ, oneᴱ, times, minus, formal, Same, den, ring}
 use Rattle.manual.specs.Matpower.{Complex, complex, real, conj, square, _⊕_, _⊗_}
-use Rattle.manual.specs.Balance.{complexSum, weighed}
+use Rattle.manual.specs.Balance.{complexSum, weighedBy}
 use Rattle.manual.proofs.Formal.{complexF}
 use Rattle.manual.proofs.Sums.{sum-ext, sum-add}
 
@@ -65,14 +65,14 @@ module _ {A : Type 0} (o : Ops A) (R : CommutativeRing o) where
   times-conj-sum z a b = law (_⊠_ formal aF (conj formal (_⊞_ formal bF cF))) (_⊞_ formal (_⊠_ formal aF (conj formal bF)) (_⊠_ formal aF (conj formal cF))) z a b b tt tt
 
   -- a real factor, put before or behind
-  pub weighed-times : (k : A) (a b : Complex A) → _⊠_ o (weighed o k a) b ≡ weighed o k (_⊠_ o a b)
-  weighed-times k a b = law (_⊠_ formal (weighed formal (var 0) bF) cF) (weighed formal (var 0) (_⊠_ formal bF cF)) (complex o k k) a b b tt tt
+  pub weighed-times : (k : A) (a b : Complex A) → _⊠_ o (weighedBy o k a) b ≡ weighedBy o k (_⊠_ o a b)
+  weighed-times k a b = law (_⊠_ formal (weighedBy formal (var 0) bF) cF) (weighedBy formal (var 0) (_⊠_ formal bF cF)) (complex o k k) a b b tt tt
 
-  pub times-conj-weighed : (k : A) (z a : Complex A) → _⊠_ o z (conj o (weighed o k a)) ≡ weighed o k (_⊠_ o z (conj o a))
-  times-conj-weighed k z a = law (_⊠_ formal bF (conj formal (weighed formal (var 0) cF))) (weighed formal (var 0) (_⊠_ formal bF (conj formal cF))) (complex o k k) z a a tt tt
+  pub times-conj-weighed : (k : A) (z a : Complex A) → _⊠_ o z (conj o (weighedBy o k a)) ≡ weighedBy o k (_⊠_ o z (conj o a))
+  times-conj-weighed k z a = law (_⊠_ formal bF (conj formal (weighedBy formal (var 0) cF))) (weighedBy formal (var 0) (_⊠_ formal bF (conj formal cF))) (complex o k k) z a a tt tt
 
-  pub real-times : (k : A) (a : Complex A) → _⊠_ o (real o k) a ≡ weighed o k a
-  real-times k a = law (_⊠_ formal (real formal (var 0)) bF) (weighed formal (var 0) bF) (complex o k k) a a a tt tt
+  pub real-times : (k : A) (a : Complex A) → _⊠_ o (real o k) a ≡ weighedBy o k a
+  real-times k a = law (_⊠_ formal (real formal (var 0)) bF) (weighedBy formal (var 0) bF) (complex o k k) a a a tt tt
 
   -- ---- sums
   pub csum-ext : (n : ℕ) (f g : ℕ → Complex A) → ((i : ℕ) → i < n → f i ≡ g i) → complexSum o n f ≡ complexSum o n g
@@ -91,11 +91,11 @@ module _ {A : Type 0} (o : Ops A) (R : CommutativeRing o) where
   times-conj-csum zero z f = law (_⊠_ formal aF (conj formal (nil formal))) (nil formal) z z z z tt tt
   times-conj-csum (suc n) z f = times-conj-sum z (complexSum o n f) (f n) ∙ ap (λ (t : Complex A). _⊞_ o t (_⊠_ o z (conj o (f n)))) (times-conj-csum n z f)
 
-  pub csum-weighed : (n : ℕ) (k : A) (f : ℕ → Complex A) → complexSum o n (λ i. weighed o k (f i)) ≡ weighed o k (complexSum o n f)
-  csum-weighed zero k f = law (nil formal) (weighed formal (var 0) (nil formal)) (complex o k k) (complex o k k) (complex o k k) (complex o k k) tt tt
+  pub csum-weighed : (n : ℕ) (k : A) (f : ℕ → Complex A) → complexSum o n (λ i. weighedBy o k (f i)) ≡ weighedBy o k (complexSum o n f)
+  csum-weighed zero k f = law (nil formal) (weighedBy formal (var 0) (nil formal)) (complex o k k) (complex o k k) (complex o k k) (complex o k k) tt tt
   csum-weighed (suc n) k f =
-      ap (λ (t : Complex A). _⊞_ o t (weighed o k (f n))) (csum-weighed n k f)
-      ∙ law (_⊞_ formal (weighed formal (var 0) bF) (weighed formal (var 0) cF)) (weighed formal (var 0) (_⊞_ formal bF cF)) (complex o k k) (complexSum o n f) (f n) (f n) tt tt
+      ap (λ (t : Complex A). _⊞_ o t (weighedBy o k (f n))) (csum-weighed n k f)
+      ∙ law (_⊞_ formal (weighedBy formal (var 0) bF) (weighedBy formal (var 0) cF)) (weighedBy formal (var 0) (_⊞_ formal bF cF)) (complex o k k) (complexSum o n f) (f n) (f n) tt tt
 
   csum-nil : (m : ℕ) → complexSum o m (λ e. nil o) ≡ nil o
   csum-nil zero = refl
@@ -112,14 +112,14 @@ module _ {A : Type 0} (o : Ops A) (R : CommutativeRing o) where
   abbrev one-at : ℕ → ℕ → A
   one-at t j = cond (eqb t j) (o .one) (o .zero)
 
-  last-one : (b : Bool) (s z : Complex A) → b ≡ true → s ≡ nil o → _⊞_ o s (weighed o (cond b (o .one) (o .zero)) z) ≡ z
-  last-one b s z p q = rw (p, q) (law (_⊞_ formal (nil formal) (weighed formal oneᴱ aF)) aF z z z z tt tt)
+  last-one : (b : Bool) (s z : Complex A) → b ≡ true → s ≡ nil o → _⊞_ o s (weighedBy o (cond b (o .one) (o .zero)) z) ≡ z
+  last-one b s z p q = rw (p, q) (law (_⊞_ formal (nil formal) (weighedBy formal oneᴱ aF)) aF z z z z tt tt)
 
-  last-none : (b : Bool) (s z : Complex A) → b ≡ false → _⊞_ o s (weighed o (cond b (o .one) (o .zero)) z) ≡ s
-  last-none b s z p = rw p (law (_⊞_ formal aF (weighed formal zeroᴱ bF)) aF s z z z tt tt)
+  last-none : (b : Bool) (s z : Complex A) → b ≡ false → _⊞_ o s (weighedBy o (cond b (o .one) (o .zero)) z) ≡ s
+  last-none b s z p = rw p (law (_⊞_ formal aF (weighedBy formal zeroᴱ bF)) aF s z z z tt tt)
 
   abbrev picked : ℕ → ℕ → (ℕ → Complex A) → Complex A
-  picked n t f = complexSum o n (λ j. weighed o (one-at t j) (f j))
+  picked n t f = complexSum o n (λ j. weighedBy o (one-at t j) (f j))
 
   pick-none : (n t : ℕ) (f : ℕ → Complex A) → n ≤ t → picked n t f ≡ nil o
   pick-none zero t f h = refl
@@ -149,10 +149,10 @@ module _ {A : Type 0} (o : Ops A) (R : CommutativeRing o) where
   back = _⊠_ formal (_⊠_ formal aF bF) (conj formal bF)
 
   abbrev grown : Complex E
-  grown = weighed formal (square formal bF) aF
+  grown = weighedBy formal (square formal bF) aF
 
   pub complex-cancel : (a b u : Complex A) → Cancels o (square o u) → _⊠_ o a u ≡ _⊠_ o b u → a ≡ b
   complex-cancel a b u c h =
-      let e : weighed o (square o u) a ≡ weighed o (square o u) b =
+      let e : weighedBy o (square o u) a ≡ weighedBy o (square o u) b =
       law grown back a u u u tt tt ∙ ap (λ (t : Complex A). _⊠_ o t (conj o u)) h ∙ law back grown b u u u tt tt in
       parts (cancel (square o u) (a .re) (b .re) c (ap (λ (t : Complex A). t .re) e)) (cancel (square o u) (a .im) (b .im) c (ap (λ (t : Complex A). t .im) e))

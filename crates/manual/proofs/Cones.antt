@@ -23,7 +23,7 @@ use Rattle.numbering.specs.declared.RowName.the-variants.{Pbal, Qbal, OhmPf, Oh
 use Rattle.rows.specs.Rows.{OhmRow, pf, qf, pt, qt}
 use Rattle.manual.specs.Matpower.{scale}
 use Rattle.manual.specs.Slack.{slack}
-use Rattle.manual.specs.Flows.{lineOf, pointAt, held, manual}
+use Rattle.manual.specs.Flows.{lineOf, pointAt, heldFlow, manual}
 use Rattle.manual.specs.Balance.{mismatch}
 use Rattle.manual.specs.Clarabel.{Cone, zeroCone, nonnegative, secondOrder, rowsOf, InNorm, InProduct, cones}
 use Rattle.manual.specs.Documents.{Symmetric, Meant, slacks}
@@ -88,7 +88,7 @@ module _ (G : AcNetwork ℤ) (x : ColumnName → ℤ) where
 
   -- each flow is the manual's, times 2 τ²
   abbrev Flow : OhmRow → ℕ → Type 0
-  Flow r e = manual whole (lineOf whole (G .branch e)) (pointAt G x e) r ≡ scale whole (lineOf whole (G .branch e)) *ℤ held whole (pointAt G x e) r
+  Flow r e = manual whole (lineOf whole (G .branch e)) (pointAt G x e) r ≡ scale whole (lineOf whole (G .branch e)) *ℤ heldFlow whole (pointAt G x e) r
 
   abbrev Z : ℤ → Type 0
   Z v = v ≡ pos 0

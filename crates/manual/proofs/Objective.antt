@@ -14,7 +14,7 @@ use Rattle.numbering.specs.Numbering.{nvar, columnAt}
 use Rattle.numbering.proofs.EveryPoint.{every-column, column-placed}
 use Rattle.rows.specs.Program.{linearAt}
 use Rattle.manual.specs.Balance.{sumTo}
-use Rattle.manual.specs.Objective.{polynomial, squared, linear, polynomials, variables}
+use Rattle.manual.specs.Objective.{polynomial, squared, linearTerm, polynomials, variables}
 use Rattle.manual.proofs.Sums.{sum-ext, sum-zero, sum-add, mul-sum, total, total-append, total-each, total-listed, total-when}
 use Rattle.numbering.specs.declared.ColumnName.{ColumnName}
 use Rattle.numbering.specs.declared.ColumnName.the-variants.{Pg, CostOf}
@@ -52,7 +52,7 @@ module _ {A : Type 0} (o : Ops A) (R : CommutativeRing o) (G : AcNetwork A) (x :
   priced true g = R .add-zero (costs (CostOf g)) ∙ ap (λ t. t * x (CostOf g)) (zero-add o R (o .one)) ∙ one-mul o R (x (CostOf g))
   priced false g = total-when o R false (costs (CostOf g))
 
-  linear-law : linear o G x ≡ sumTo o (G .k) (λ g. costs (Pg g)) + variables o G x
+  linear-law : linearTerm o G x ≡ sumTo o (G .k) (λ g. costs (Pg g)) + variables o G x
   linear-law =
       sym (total-listed o R (nvar G) (λ c. costs (columnAt G c)))
       ∙ ap (total o R) (every-column G (λ c. costs (columnAt G c) ∷ []) (λ c. costs c ∷ []) (λ c h. ap (λ (d : ColumnName). costs d ∷ []) (column-placed G c h)))
@@ -66,7 +66,7 @@ module _ {A : Type 0} (o : Ops A) (R : CommutativeRing o) (G : AcNetwork A) (x :
   generator : (g : ℕ) → curved o (G .cq g) (G .cl g) (x (Pg g)) ≡ doubled o (G .cq g) (G .cl g) (x (Pg g))
   generator g = ring o R (curved formal (var 0) (var 1) (var 2)) (doubled formal (var 0) (var 1) (var 2)) (G .cq g ∷ G .cl g ∷ x (Pg g) ∷ []) tt
 
-  pub objective-law : squared o G x + two * linear o G x ≡ two * (polynomials o G x + variables o G x)
+  pub objective-law : squared o G x + two * linearTerm o G x ≡ two * (polynomials o G x + variables o G x)
   objective-law =
       ap (λ t. squared o G x + two * t) linear-law
       ∙ ap (λ t. squared o G x + t) (R .mul-add two (sumTo o (G .k) (λ g. costs (Pg g))) (variables o G x))

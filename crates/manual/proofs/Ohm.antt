@@ -11,7 +11,7 @@ use Rattle.records.specs.AcNetwork.{BranchData, AcNetwork}
 use Rattle.rows.specs.Branch.{gathered}
 use Rattle.manual.specs.Matpower.{Complex, Line, scale, conj, _⊗_, square}
 use Rattle.manual.specs.Slack.{slack}
-use Rattle.manual.specs.Flows.{Point, lineOf, held, manual, less, pointAt, fromV, products}
+use Rattle.manual.specs.Flows.{Point, lineOf, heldFlow, manual, less, pointAt, fromV, products}
 use Rattle.manual.specs.Documents.{Symmetric}
 use Rattle.manual.proofs.Formal.{complexF, lineF}
 use Rattle.numbering.specs.declared.ColumnName.{ColumnName}
@@ -31,7 +31,7 @@ module _ {A : Type 0} (o : Ops A) where
   column x qt w = x .wt
   column x r wr = x .c .re
   column x r wi = x .c .im
-  column x r flow = held o x r
+  column x r flow = heldFlow o x r
 
   abbrev term : BranchData A → Point A → OhmRow → OhmPlace → A
   term d x r p = scaled o (gathered o d .tm2) (ohm o (gathered o d) r p) * column x r p

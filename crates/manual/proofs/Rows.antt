@@ -20,7 +20,7 @@ use Rattle.numbering.specs.declared.ColumnName.the-variants.{Pg, Qg, W, Wr, Wi,
 use Rattle.numbering.specs.declared.RowName.the-variants.{Pbal, Qbal, Wub, Wlb, Pgub, Pglb, Qgub, Qglb, Angub, Anglb, Segment, Jabr, Thermal}
 use Rattle.manual.specs.Matpower.{scale}
 use Rattle.manual.specs.Slack.{slackOf, slack}
-use Rattle.manual.specs.Flows.{lineOf, pointAt, held, manual}
+use Rattle.manual.specs.Flows.{lineOf, pointAt, heldFlow, manual}
 use Rattle.manual.specs.Balance.{mismatch}
 use Rattle.manual.specs.Clarabel.{squares, InNorm}
 use Rattle.manual.specs.Documents.{Symmetric}
@@ -77,7 +77,7 @@ module _ (G : AcNetwork ℤ) (x : ColumnName → ℤ) where
   -- 2 τ² times the manual's flow is 2 τ² times the column's
   pub ohm-zero : (e : ℕ) (r : OhmRow) → Symmetric whole (G .branch e)
       → (slack whole G x (ohmRow r e) ≡ pos 0)
-      ↔ (manual whole (lineOf whole (G .branch e)) (pointAt G x e) r ≡ scale whole (lineOf whole (G .branch e)) *ℤ held whole (pointAt G x e) r)
+      ↔ (manual whole (lineOf whole (G .branch e)) (pointAt G x e) r ≡ scale whole (lineOf whole (G .branch e)) *ℤ heldFlow whole (pointAt G x e) r)
   ohm-zero e r s = of-less (slack whole G x (ohmRow r e)) _ _ (ohm-law whole whole-ring G x e r s)
 
   pub wub-law : (i : ℕ) → (pos 0 ≤ℤ slack whole G x (Wub i)) ↔ (G .bounded i ≡ true → x (W i) ≤ℤ (G .vmMax i *ℤ G .vmMax i))

@@ -12,10 +12,10 @@ use Rattle.records.specs.AcNetwork.{AcNetwork}
 use Rattle.rows.specs.Rows.{OhmRow, pf, qf, pt, qt, ohmRow, flowColumn}
 use Rattle.numbering.specs.declared.ColumnName.{ColumnName}
 use Rattle.numbering.specs.declared.RowName.the-variants.{Pbal, Qbal, Jabr}
-use Rattle.manual.specs.Matpower.{Complex, Line, Entry, ff, ft, tf, tt′, real, conj, square, scale, multiple, ybr, sf, st}
+use Rattle.manual.specs.Matpower.{Complex, Line, YbrEntry, ff, ft, tf, tt′, real, conj, square, scale, multiple, ybr, sf, st}
 use Rattle.manual.specs.Slack.{slack}
 use Rattle.manual.specs.Flows.{lineOf, fromV}
-use Rattle.manual.specs.Balance.{weighed, joined, joins, shunt, sbus, sfAt, stAt, left-over, injected, mismatch}
+use Rattle.manual.specs.Balance.{weighedBy, connected, joins, shunt, sbus, sfAt, stAt, left-over, injected, mismatch}
 use Rattle.manual.specs.Clarabel.{squares}
 use Rattle.manual.specs.Documents.{AtVoltages, Balanced}
 use Rattle.manual.proofs.Formal.{complexF, lineF}
@@ -32,10 +32,10 @@ module _ {A : Type 0} (o : Ops A) where
   power z a b vf vt = _⊠_ o z (conj o (_⊞_ o (_⊠_ o a vf) (_⊠_ o b vt)))
 
   abbrev inside : A → Complex A → Complex A → Complex A → Complex A → Complex A → Complex A
-  inside k z a b vf vt = power z (weighed o k a) (weighed o k b) vf vt
+  inside k z a b vf vt = power z (weighedBy o k a) (weighedBy o k b) vf vt
 
   abbrev outside : A → Complex A → Complex A → Complex A → Complex A → Complex A → Complex A
-  outside k z a b vf vt = weighed o k (power z a b vf vt)
+  outside k z a b vf vt = weighedBy o k (power z a b vf vt)
 
 abbrev insideF : Complex E
 insideF = inside formal (var 0) (complexF 1 2) (complexF 3 4) (complexF 5 6) (complexF 7 8) (complexF 9 10)
@@ -63,7 +63,7 @@ module _ {A : Type 0} (o : Ops A) (R : CommutativeRing o) where
     abbrev turnF : E
     turnF = times (times (var 3) (var 3)) (plus (times (var 4) (var 4)) (times (var 5) (var 5)))
 
-    under-cancels : (q : Entry) → Cancels o (square o (ybr o l q .under))
+    under-cancels : (q : YbrEntry) → Cancels o (square o (ybr o l q .under))
     under-cancels ff =
         subst (Cancels o) (ring o R (times (scale formal lineF) (scale formal lineF)) (square formal (ybr formal lineF ff .under)) numbers tt)
         (cancels-both o R (scale o l) (scale o l) scale-cancels scale-cancels)
@@ -73,10 +73,10 @@ module _ {A : Type 0} (o : Ops A) (R : CommutativeRing o) where
         subst (Cancels o) (ring o R (times twoᴱ twoᴱ) (square formal (ybr formal lineF tt′ .under)) numbers tt) (cancels-both o R two two halves halves)
 
     -- so the multiples are 2 τ² times the elements
-    multiple-is : (y : Entry → Complex A) (q : Entry) → _⊠_ o (y q) (ybr o l q .under) ≡ ybr o l q .over → multiple o l q ≡ weighed o (scale o l) (y q)
+    multiple-is : (y : YbrEntry → Complex A) (q : YbrEntry) → _⊠_ o (y q) (ybr o l q .under) ≡ ybr o l q .over → multiple o l q ≡ weighedBy o (scale o l) (y q)
     multiple-is y q h =
-        complex-cancel o R (multiple o l q) (weighed o (scale o l) (y q)) (ybr o l q .under) (under-cancels q)
-        (sym (branch-law o R l unit q) ∙ real-times o R (scale o l) (ybr o l q .over) ∙ ap (λ (t : Complex A). weighed o (scale o l) t) (sym h)
+        complex-cancel o R (multiple o l q) (weighedBy o (scale o l) (y q)) (ybr o l q .under) (under-cancels q)
+        (sym (branch-law o R l unit q) ∙ real-times o R (scale o l) (ybr o l q .over) ∙ ap (λ (t : Complex A). weighedBy o (scale o l) t) (sym h)
         ∙ sym (weighed-times o R (scale o l) (y q) (ybr o l q .under)))
 
   taken-out : (k : A) (z a b vf vt : Complex A) → inside o k z a b vf vt ≡ outside o k z a b vf vt
@@ -84,7 +84,7 @@ module _ {A : Type 0} (o : Ops A) (R : CommutativeRing o) where
       let ρ : List A = k ∷ z .re ∷ z .im ∷ a .re ∷ a .im ∷ b .re ∷ b .im ∷ vf .re ∷ vf .im ∷ vt .re ∷ vt .im ∷ [] in
       parts o R (ring o R (insideF .re) (outsideF .re) ρ tt) (ring o R (insideF .im) (outsideF .im) ρ tt)
 
-  module _ (G : AcNetwork A) (x : ColumnName → A) (y : ℕ → Entry → Complex A) (v : ℕ → Complex A) (H : AtVoltages o G x y v) where
+  module _ (G : AcNetwork A) (x : ColumnName → A) (y : ℕ → YbrEntry → Complex A) (v : ℕ → Complex A) (H : AtVoltages o G x y v) where
     -- ---- a branch whose four Ohm rows have a zero s
     module _ (e : ℕ) (below : e < G .m) where
       abbrev l : Line A
@@ -96,11 +96,11 @@ module _ {A : Type 0} (o : Ops A) (R : CommutativeRing o) where
       abbrev vt : Complex A
       vt = v (G .to e)
 
-      elements : (q : Entry) → multiple o l q ≡ weighed o (scale o l) (y e q)
+      elements : (q : YbrEntry) → multiple o l q ≡ weighedBy o (scale o l) (y e q)
       elements q = multiple-is l (H .unit e below) (H .halves) (H .ratio e below) (y e) q (H .admittance e below q)
 
       -- 2 τ² times a power of the elements
-      scaled-power : (z : Complex A) (p q : Entry) → power o z (multiple o l p) (multiple o l q) vf vt ≡ weighed o (scale o l) (power o z (y e p) (y e q) vf vt)
+      scaled-power : (z : Complex A) (p q : YbrEntry) → power o z (multiple o l p) (multiple o l q) vf vt ≡ weighedBy o (scale o l) (power o z (y e p) (y e q) vf vt)
       scaled-power z p q =
           ap₂ (λ (a b : Complex A). power o z a b vf vt) (elements p) (elements q) ∙ taken-out (scale o l) z (y e p) (y e q) vf vt
 
@@ -125,7 +125,7 @@ module _ {A : Type 0} (o : Ops A) (R : CommutativeRing o) where
     -- ---- at a bus, the flows and |v|² give S_bus
     joins-ext : (s : ℕ → ℕ) (i : ℕ) (f g : ℕ → Complex A) → ((e : ℕ) → e < G .m → f e ≡ g e) → joins o s i (G .m) f ≡ joins o s i (G .m) g
     joins-ext s i f g h =
-        csum-ext o R (G .m) (λ e. weighed o (joined o s i e) (f e)) (λ e. weighed o (joined o s i e) (g e)) (λ e m. ap (λ (t : Complex A). weighed o (joined o s i e) t) (h e m))
+        csum-ext o R (G .m) (λ e. weighedBy o (connected o s i e) (f e)) (λ e. weighedBy o (connected o s i e) (g e)) (λ e m. ap (λ (t : Complex A). weighedBy o (connected o s i e) t) (h e m))
 
     module _ (ohm : (e : ℕ) → e < G .m → (r : OhmRow) → slack o G x (ohmRow r e) ≡ o .zero) (i : ℕ) (h : i < G .n) where
       injected-is : injected o G x i ≡ sbus o G y v i

@@ -5,7 +5,7 @@ use mathlib.Core.Bool.{cond}
 use lib.Dec.{eqb}
 use Rattle.ring.specs.Ops.{Ops}
 use Rattle.records.specs.AcNetwork.{AcNetwork}
-use Rattle.manual.specs.Matpower.{Complex, complex, real, conj, _⊗_, _⊕_, minus, Entry, ff, ft, tf, tt′, sf, st}
+use Rattle.manual.specs.Matpower.{Complex, complex, real, conj, _⊗_, _⊕_, minus, YbrEntry, ff, ft, tf, tt′, sf, st}
 use Rattle.numbering.specs.declared.ColumnName.{ColumnName}
 use Rattle.numbering.specs.declared.ColumnName.the-variants.{Pg, Qg, W, Pf, Pt, Qf, Qt}
 
@@ -31,15 +31,15 @@ module _ {A : Type 0} (o : Ops A) where
   complexSum n f = complex o (sumTo n (λ j. f j .re)) (sumTo n (λ j. f j .im))
 
   -- an entry of a connection matrix: 1 where element j is at bus i; and that entry times a number
-  abbrev pub joined : (ℕ → ℕ) → ℕ → ℕ → A
-  joined s i j = cond (eqb (s j) i) (o .one) (o .zero)
+  abbrev pub connected : (ℕ → ℕ) → ℕ → ℕ → A
+  connected s i j = cond (eqb (s j) i) (o .one) (o .zero)
 
-  abbrev pub weighed : A → Complex A → Complex A
-  weighed a x = complex o (a * x .re) (a * x .im)
+  abbrev pub weighedBy : A → Complex A → Complex A
+  weighedBy a x = complex o (a * x .re) (a * x .im)
 
   -- a row of a transposed connection matrix times a column
   abbrev pub joins : (ℕ → ℕ) → ℕ → ℕ → (ℕ → Complex A) → Complex A
-  joins s i n f = complexSum n (λ j. weighed (joined s i j) (f j))
+  joins s i n f = complexSum n (λ j. weighedBy (connected s i j) (f j))
 
   module _ (G : AcNetwork A) where
     -- ysh = gs + j bs (section 'Shunt Elements')
@@ -47,17 +47,17 @@ module _ {A : Type 0} (o : Ops A) where
     shunt i = complex o (G .gs i) (G .bs i)
 
     -- ---- from voltages v at all buses and the elements y e of each branch's Ybr
-    module _ (y : ℕ → Entry → Complex A) (v : ℕ → Complex A) where
+    module _ (y : ℕ → YbrEntry → Complex A) (v : ℕ → Complex A) where
       -- row e of Y_f and of Y_t: Ybr's elements at the branch's two buses
       abbrev pub yf : ℕ → ℕ → Complex A
-      yf e j = weighed (joined (G .from) j e) (y e ff) ⊞ weighed (joined (G .to) j e) (y e ft)
+      yf e j = weighedBy (connected (G .from) j e) (y e ff) ⊞ weighedBy (connected (G .to) j e) (y e ft)
 
       abbrev pub yt : ℕ → ℕ → Complex A
-      yt e j = weighed (joined (G .from) j e) (y e tf) ⊞ weighed (joined (G .to) j e) (y e tt′)
+      yt e j = weighedBy (connected (G .from) j e) (y e tf) ⊞ weighedBy (connected (G .to) j e) (y e tt′)
 
       -- Ybus = C_f' Y_f + C_t' Y_t + [Y_sh]
       abbrev pub ybus : ℕ → ℕ → Complex A
-      ybus i j = joins (G .from) i (G .m) (λ e. yf e j) ⊞ joins (G .to) i (G .m) (λ e. yt e j) ⊞ weighed (joined (λ k. k) j i) (shunt i)
+      ybus i j = joins (G .from) i (G .m) (λ e. yf e j) ⊞ joins (G .to) i (G .m) (λ e. yt e j) ⊞ weighedBy (connected (λ k. k) j i) (shunt i)
 
       -- I_bus = Ybus V, S_bus = [V] conj(I_bus)
       abbrev pub ibus : ℕ → Complex A

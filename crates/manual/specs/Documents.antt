@@ -21,11 +21,11 @@ use Rattle.numbering.specs.declared.ColumnName.the-variants.{Pg, Qg, W, Wr, Wi,
 use Rattle.numbering.specs.declared.RowName.the-variants.{Pbal, Qbal, Jabr}
 use Rattle.rows.specs.Rows.{Coefficient, OhmRow, ohmRow}
 use Rattle.rows.specs.Scaled.{fractionOf, scaled, Quotient}
-use Rattle.manual.specs.Matpower.{Complex, Line, Entry, _⊗_, conj, real, square, scale, left, right, ybr}
+use Rattle.manual.specs.Matpower.{Complex, Line, YbrEntry, _⊗_, conj, real, square, scale, left, right, ybr}
 use Rattle.manual.specs.Slack.{slack}
-use Rattle.manual.specs.Flows.{lineOf, pointAt, held, manual, less, fromV, products}
+use Rattle.manual.specs.Flows.{lineOf, pointAt, heldFlow, manual, less, fromV, products}
 use Rattle.manual.specs.Balance.{mismatch, sbus, byBranches, left-over}
-use Rattle.manual.specs.Objective.{squared, linear, polynomials, variables}
+use Rattle.manual.specs.Objective.{squared, linearTerm, polynomials, variables}
 use Rattle.manual.specs.Clarabel.{rowsOf, squares, InProduct, cones}
 
 -- ---- the MATPOWER manual, over the operations o of a commutative ring
@@ -45,7 +45,7 @@ module _ {A : Type 0} (o : Ops A) where
     -- a coefficient, multiplied out, is 2 τ² times its numerator over its denominator
     pub multiplied : (tm2 : A) (c : Coefficient A) → scaled o tm2 c * fractionOf o tm2 c .denominator ≡ two * tm2 * fractionOf o tm2 c .numerator
     -- section 'Branches': the multiplied-out Ybr is the manual's
-    pub branches : (l : Line A) → l .cosθ * l .cosθ + l .sinθ * l .sinθ ≡ one → (e : Entry) → left o l e ≡ right o l e
+    pub branches : (l : Line A) → l .cosθ * l .cosθ + l .sinθ * l .sinθ ≡ one → (e : YbrEntry) → left o l e ≡ right o l e
     -- section 'Network Equations': S_f and S_t of the voltages, and of w_f = |v_f|², w_t = |v_t|² and c = v_f conj(v_t)
     pub powers : (l : Line A) (vf vt : Complex A) (r : OhmRow) → manual o l (products o l vf vt) r ≡ fromV o l vf vt r
     -- an Ohm row's s, times 2 τ²: the manual's flow less the flow's column
@@ -53,29 +53,29 @@ module _ {A : Type 0} (o : Ops A) where
     -- a shunt's power
     pub shunt : (ysh v : Complex A) → _⊗_ o v (conj o (_⊗_ o ysh v)) ≡ _⊗_ o (conj o ysh) (real o (square o v))
     -- S_bus from Ybus = C_f' Y_f + C_t' Y_t + [Y_sh] is what the branches and the shunt take, for any elements y of the branches' Ybr and voltages v
-    pub split : (y : ℕ → Entry → Complex A) (v : ℕ → Complex A) → ((e : ℕ) → e < G .m → (G .from e < G .n) × (G .to e < G .n))
+    pub split : (y : ℕ → YbrEntry → Complex A) (v : ℕ → Complex A) → ((e : ℕ) → e < G .m → (G .from e < G .n) × (G .to e < G .n))
         → (i : ℕ) → i < G .n → sbus o G y v i ≡ byBranches o G y v i
     -- a balance row's s, times 2, is the mismatch, twice
     pub active : (i : ℕ) → slack o G x (Pbal i) ≡ two * mismatch o G x i .re
     pub reactive : (i : ℕ) → slack o G x (Qbal i) ≡ two * mismatch o G x i .im
     -- the objective, twice: x'Px + 2 q'x = 2 (Σ cq pg² + cl pg, and Σ t)
-    pub objective : squared o G x + two * linear o G x ≡ two * (polynomials o G x + variables o G x)
+    pub objective : squared o G x + two * linearTerm o G x ≡ two * (polynomials o G x + variables o G x)
 
   -- ---- the whole at voltages: v at every bus and y of every branch, where y is Ybr and the columns hold the products of the voltages
-  pub record AtVoltages (G : AcNetwork A) (x : ColumnName → A) (y : ℕ → Entry → Complex A) (v : ℕ → Complex A) : Type 0 where
+  pub record AtVoltages (G : AcNetwork A) (x : ColumnName → A) (y : ℕ → YbrEntry → Complex A) (v : ℕ → Complex A) : Type 0 where
     pub buses-below : (e : ℕ) → e < G .m → (G .from e < G .n) × (G .to e < G .n)
     pub symmetric : (e : ℕ) → e < G .m → Symmetric (G .branch e)
     pub unit : (e : ℕ) → e < G .m → G .branch e .cosine * G .branch e .cosine + G .branch e .sine * G .branch e .sine ≡ one
     pub halves : Cancels o two
     pub ratio : (e : ℕ) → e < G .m → Cancels o (G .branch e .tap)
-    pub admittance : (e : ℕ) → e < G .m → (q : Entry) → _⊗_ o (y e q) (ybr o (lineOf o (G .branch e)) q .under) ≡ ybr o (lineOf o (G .branch e)) q .over
+    pub admittance : (e : ℕ) → e < G .m → (q : YbrEntry) → _⊗_ o (y e q) (ybr o (lineOf o (G .branch e)) q .under) ≡ ybr o (lineOf o (G .branch e)) q .over
     pub squares : (i : ℕ) → i < G .n → x (W i) ≡ square o (v i)
     pub real-part : (e : ℕ) → e < G .m → x (Wr e) ≡ _⊗_ o (v (G .from e)) (conj o (v (G .to e))) .re
     pub imaginary-part : (e : ℕ) → e < G .m → x (Wi e) ≡ _⊗_ o (v (G .from e)) (conj o (v (G .to e))) .im
 
   -- where the flows meet the Ohm rows, each balance row's s is zero exactly where the manual's power balance holds; and each branch's cone of four
   -- holds with equality
-  pub record Balanced (G : AcNetwork A) (x : ColumnName → A) (y : ℕ → Entry → Complex A) (v : ℕ → Complex A) : Type 0 where
+  pub record Balanced (G : AcNetwork A) (x : ColumnName → A) (y : ℕ → YbrEntry → Complex A) (v : ℕ → Complex A) : Type 0 where
     pub active : ((e : ℕ) → e < G .m → (r : OhmRow) → slack o G x (ohmRow r e) ≡ zero)
         → (i : ℕ) → i < G .n → (slack o G x (Pbal i) ≡ zero) ↔ (left-over o G x (sbus o G y v i) i .re ≡ zero)
     pub reactive : ((e : ℕ) → e < G .m → (r : OhmRow) → slack o G x (ohmRow r e) ≡ zero)
@@ -89,7 +89,7 @@ ManualHolds = (A : Type 0) (o : Ops A) → CommutativeRing o → (G : AcNetwork 
 
 abbrev pub BalanceHolds : Type 1
 BalanceHolds =
-    (A : Type 0) (o : Ops A) → CommutativeRing o → (G : AcNetwork A) (x : ColumnName → A) (y : ℕ → Entry → Complex A) (v : ℕ → Complex A)
+    (A : Type 0) (o : Ops A) → CommutativeRing o → (G : AcNetwork A) (x : ColumnName → A) (y : ℕ → YbrEntry → Complex A) (v : ℕ → Complex A)
     → AtVoltages o G x y v → Balanced o G x y v
 
 -- what the code computes for a coefficient is that numerator over that denominator, rounded
@@ -102,7 +102,7 @@ pub record Meant (G : AcNetwork ℤ) (x : ColumnName → ℤ) : Type 0 where
   pub pbal : (i : ℕ) → i < G .n → mismatch whole G x i .re ≡ pos 0
   pub qbal : (i : ℕ) → i < G .n → mismatch whole G x i .im ≡ pos 0
   pub ohm : (e : ℕ) → e < G .m → (r : OhmRow)
-      → manual whole (lineOf whole (G .branch e)) (pointAt G x e) r ≡ scale whole (lineOf whole (G .branch e)) *ℤ held whole (pointAt G x e) r
+      → manual whole (lineOf whole (G .branch e)) (pointAt G x e) r ≡ scale whole (lineOf whole (G .branch e)) *ℤ heldFlow whole (pointAt G x e) r
   -- the nonnegative cone: each bound with its sign, where it is active
   pub wub : (i : ℕ) → i < G .n → G .bounded i ≡ true → x (W i) ≤ℤ (G .vmMax i *ℤ G .vmMax i)
   pub wlb : (i : ℕ) → i < G .n → G .bounded i ≡ true → (G .vmMin i *ℤ G .vmMin i) ≤ℤ x (W i)

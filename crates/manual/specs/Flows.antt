@@ -26,11 +26,11 @@ module _ {A : Type 0} (o : Ops A) where
   lineOf d = record { g = d .g; b = d .b; bc = d .bfr + d .bto; τ = d .tap; cosθ = d .cosine; sinθ = d .sine }
 
   -- the column of a row's flow
-  abbrev pub held : Point A → OhmRow → A
-  held x pf = x .sf .re
-  held x qf = x .sf .im
-  held x pt = x .st .re
-  held x qt = x .st .im
+  abbrev pub heldFlow : Point A → OhmRow → A
+  heldFlow x pf = x .sf .re
+  heldFlow x qf = x .sf .im
+  heldFlow x pt = x .st .re
+  heldFlow x qt = x .st .im
 
   -- 2 τ² times what the manual says of the row's flow
   abbrev pub manual : Line A → Point A → OhmRow → A
@@ -41,7 +41,7 @@ module _ {A : Type 0} (o : Ops A) where
 
   -- 2 τ² times the manual's flow less the column's
   abbrev pub less : Line A → Point A → OhmRow → A
-  less l x r = manual l x r - scale o l * held x r
+  less l x r = manual l x r - scale o l * heldFlow x r
 
 -- ---- in a network: the columns are those that the numbering names
 abbrev pub pointAt : {A : Type 0} → AcNetwork A → (ColumnName → A) → ℕ → Point A

@@ -25,8 +25,8 @@ pub record Line (A : Type 0) : Type 0 where
   pub sinθ : A
 
 -- the four elements of Ybr
-pub data Entry : Type 0 where
-  ff ft tf tt′ : Entry
+pub data YbrEntry : Type 0 where
+  ff ft tf tt′ : YbrEntry
 
 module _ {A : Type 0} (o : Ops A) where
   infixl 60 _+_
@@ -71,53 +71,53 @@ module _ {A : Type 0} (o : Ops A) where
     ys = complex (l .g) (l .b)
 
     -- 2 (ys + j bc/2)
-    abbrev pub ends : Complex A
-    ends = two ⊗ ys ⊕ complex zero (l .bc)
+    abbrev pub endAdmittance : Complex A
+    endAdmittance = two ⊗ ys ⊕ complex zero (l .bc)
 
     -- τ²; τ e^(jθ) and τ e^(-jθ)
     abbrev pub τ² : A
     τ² = l .τ * l .τ
 
-    abbrev pub turned : Complex A
-    turned = real (l .τ) ⊗ complex (l .cosθ) (l .sinθ)
+    abbrev pub turnedTap : Complex A
+    turnedTap = real (l .τ) ⊗ complex (l .cosθ) (l .sinθ)
 
     abbrev pub turnedBack : Complex A
     turnedBack = real (l .τ) ⊗ complex (l .cosθ) (neg (l .sinθ))
 
     -- ---- Ybr, with the half of bc multiplied out
-    abbrev pub ybr : Entry → Ratio A
-    ybr ff = ends ⊘ (two ⊗ real τ²)
+    abbrev pub ybr : YbrEntry → Ratio A
+    ybr ff = endAdmittance ⊘ (two ⊗ real τ²)
     ybr ft = minus ys ⊘ turnedBack
-    ybr tf = minus ys ⊘ turned
-    ybr tt′ = ends ⊘ two
+    ybr tf = minus ys ⊘ turnedTap
+    ybr tt′ = endAdmittance ⊘ two
 
     -- ---- 2 τ² times Ybr: each denominator multiplied out, and "the manual's 1/e^(-jθ) read as e^(jθ)"
     abbrev pub scale : A
     scale = o .two * τ²
 
-    abbrev pub multiple : Entry → Complex A
-    multiple ff = ends
-    multiple ft = minus (two ⊗ ys ⊗ turned)
+    abbrev pub multiple : YbrEntry → Complex A
+    multiple ff = endAdmittance
+    multiple ft = minus (two ⊗ ys ⊗ turnedTap)
     multiple tf = minus (two ⊗ ys ⊗ turnedBack)
-    multiple tt′ = real τ² ⊗ ends
+    multiple tt′ = real τ² ⊗ endAdmittance
 
     -- both by one: two fractions are equal where the products across are
-    abbrev pub left : Entry → Complex A
+    abbrev pub left : YbrEntry → Complex A
     left e = real scale ⊗ ybr e .over
 
-    abbrev pub right : Entry → Complex A
+    abbrev pub right : YbrEntry → Complex A
     right e = multiple e ⊗ ybr e .under
 
   -- S_f = v_f conj(i_f) and S_t = v_t conj(i_t), of the four elements of Ybr or of their multiples
-  abbrev pub sf : (Entry → Complex A) → Complex A → Complex A → Complex A
+  abbrev pub sf : (YbrEntry → Complex A) → Complex A → Complex A → Complex A
   sf y vf vt = vf ⊗ conj (y ff ⊗ vf ⊕ y ft ⊗ vt)
 
-  abbrev pub st : (Entry → Complex A) → Complex A → Complex A → Complex A
+  abbrev pub st : (YbrEntry → Complex A) → Complex A → Complex A → Complex A
   st y vf vt = vt ⊗ conj (y tf ⊗ vf ⊕ y tt′ ⊗ vt)
 
   -- the same of w_f = |v_f|², w_t = |v_t|² and c = v_f conj(v_t)
-  abbrev pub sfW : (Entry → Complex A) → A → A → Complex A → Complex A
+  abbrev pub sfW : (YbrEntry → Complex A) → A → A → Complex A → Complex A
   sfW y wf wt c = real wf ⊗ conj (y ff) ⊕ c ⊗ conj (y ft)
 
-  abbrev pub stW : (Entry → Complex A) → A → A → Complex A → Complex A
+  abbrev pub stW : (YbrEntry → Complex A) → A → A → Complex A → Complex A
   stW y wf wt c = conj c ⊗ conj (y tf) ⊕ real wt ⊗ conj (y tt′)

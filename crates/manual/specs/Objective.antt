@@ -25,8 +25,8 @@ module _ {A : Type 0} (o : Ops A) where
     abbrev pub squared : A
     squared = sumTo o (G .k) (λ g. x (curvedAt g) * curvature o G g * x (curvedAt g))
 
-    abbrev pub linear : A
-    linear = sumTo o (nvar G) (λ c. linearAt o G (columnAt G c) * x (columnAt G c))
+    abbrev pub linearTerm : A
+    linearTerm = sumTo o (nvar G) (λ c. linearAt o G (columnAt G c) * x (columnAt G c))
 
     -- Σ cq pg² + cl pg, the manual's polynomials without their constants; and Σ t, a variable for each piecewise generator
     abbrev pub polynomials : A

@@ -4,7 +4,7 @@ use mathlib.Core.List.{List}
 use Rattle.ring.specs.Ops.{Ops}
 use Rattle.records.specs.AcNetwork.{AcNetwork}
 use Rattle.rows.specs.Rows.{Cell, cells, rhs, under}
-use Rattle.rows.specs.Scaled.{sum}
+use Rattle.rows.specs.Scaled.{sumOver}
 use Rattle.numbering.specs.declared.ColumnName.{ColumnName}
 use Rattle.numbering.specs.declared.RowName.{RowName}
 
@@ -14,7 +14,7 @@ module _ {A : Type 0} (o : Ops A) (tm2 : A) (x : ColumnName → A) where
   open Ops o using (_-_ as _⊖_, _*_ as _⊗_)
 
   abbrev pub slackOf : A → List (Cell A) → A
-  slackOf b cs = o .two ⊗ tm2 ⊗ b ⊖ sum o x tm2 cs
+  slackOf b cs = o .two ⊗ tm2 ⊗ b ⊖ sumOver o x tm2 cs
 
 abbrev pub slack : {A : Type 0} → Ops A → AcNetwork A → (ColumnName → A) → RowName → A
 slack o G x r = slackOf o (under o G r) x (rhs o G r) (cells o G r)

@@ -22,7 +22,7 @@ use Rattle.numbering.proofs.Numbers.{HasColumn}
 use Rattle.rows.specs.Rows.{Constant, one, minusOne, half, minusHalf, constant64, zero64, Term, term, kept, OhmRow, pf, qf, pt, qt, w, wr, wi, ohmValue, flowColumn, endBus, ohmRow}
 use Rattle.rows.specs.Program.{everyRow}
 use Rattle.rows.proofs.Shape.{hitTerms, endTerms}
-use Rattle.matrix.specs.Columns.{oneCell, nonzeroCell, at, keep, slopeCell, pgCells, qgCells, shuntCells, ohmCell, boundCells, coneFrom, coneTo, ohmAt, conesAt, wCells, ohmCells, wrCells, wiCells, flowCells, costCell, costCells, columnCells}
+use Rattle.matrix.specs.Columns.{oneCell, nonzeroCell, at, keep, slopeCell, pgCells, qgCells, shuntCells, ohmCell, boundCells, coneFrom, coneTo, ohmAt, conesAt, wCells, ohmColumnCells, wrCells, wiCells, flowCells, costCell, costCells, columnCells}
 use Rattle.matrix.proofs.Shaped.{sole, ohmTerms, shaped}
 
 -- whether two columns have the same block and record
@@ -174,7 +174,7 @@ module _ (G : AcNetwork Float) (sound : Sound G) (bus-below : (g : ℕ) → g < 
       (simp (when-append, append-assoc)))
 
   col-wr : (e : ℕ) → e < G .m → column G (Wr e) ≡ wrCells G e
-  unfolding column shaped ohmTerms wrCells ohmCells
+  unfolding column shaped ohmTerms wrCells ohmColumnCells
   col-wr e l =
       simp cuts
       (rw (
@@ -190,7 +190,7 @@ module _ (G : AcNetwork Float) (sound : Sound G) (bus-below : (g : ℕ) → g < 
       (simp (when-append, append-assoc)))
 
   col-wi : (e : ℕ) → e < G .m → column G (Wi e) ≡ wiCells G e
-  unfolding column shaped ohmTerms wiCells ohmCells
+  unfolding column shaped ohmTerms wiCells ohmColumnCells
   col-wi e l =
       simp cuts
       (rw (

@@ -19,7 +19,7 @@ use Rattle.numbering.specs.declared.RowName.{RowName}
 use Rattle.numbering.specs.declared.RowName.the-variants.{Pbal, Qbal, OhmPf, OhmQf, OhmPt, OhmQt, Wub, Wlb, Pgub, Pglb, Qgub, Qglb, Angub, Anglb, Segment, Jabr, Thermal}
 use Rattle.numbering.proofs.Numbers.{numbers, HasColumn, HasRow, row-below, row-rises}
 use Rattle.rows.specs.Rows.{zero64, OhmRow, pf, qf, pt, qt, OhmPlace, wr, wi, endBus, ohmRow}
-use Rattle.matrix.specs.Columns.{oneCell, nonzeroCell, pgCells, slopeCell, qgCells, shuntCells, ohmCell, boundCells, coneFrom, coneTo, ohmAt, conesAt, wCells, ohmCells, wrCells, wiCells, flowCells, costCell, costCells, columnCells}
+use Rattle.matrix.specs.Columns.{oneCell, nonzeroCell, pgCells, slopeCell, qgCells, shuntCells, ohmCell, boundCells, coneFrom, coneTo, ohmAt, conesAt, wCells, ohmColumnCells, wrCells, wiCells, flowCells, costCell, costCells, columnCells}
 use Rattle.matrix.specs.Law.{Rising, stop, more}
 
 up-from : {lo hi : ℕ} {cs : List Cell} (l : ℕ) → l ≤ lo → Rising lo hi cs → Rising l hi cs
@@ -109,8 +109,8 @@ module _ (G : AcNetwork Float) (sound : Sound G) (bus-below : (g : ℕ) → g < 
   rise-cost g l = up-from 0 (omega arith) (segment-rows g l (costCell G g) (λ t. up-one _ _))
 
   -- the four Ohm rows, the two angle rows and a row of the cone
-  rise-four : (p : OhmPlace) (e : ℕ) → e < G .m → Rising 0 (rowNumber G (OhmQt e) + 1) (ohmCells G p e)
-  unfolding ohmCells
+  rise-four : (p : OhmPlace) (e : ℕ) → e < G .m → Rising 0 (rowNumber G (OhmQt e) + 1) (ohmColumnCells G p e)
+  unfolding ohmColumnCells
   rise-four p e l =
       up-from 0 (omega arith)
       (up-join (up-join (up-two _ _ _ _ (after (OhmPf e) (OhmQf e) l l (omega arith)))
@@ -118,7 +118,7 @@ module _ (G : AcNetwork Float) (sound : Sound G) (bus-below : (g : ℕ) → g < 
 
   rise-branch : (p : OhmPlace) (e q : ℕ) → e < G .m → q < 4 → (angle : List Cell) (v : Float)
       → Rising (rowNumber G (Angub e)) (rowNumber G (Anglb e) + 1) angle
-      → Rising 0 (ncon G) (ohmCells G p e ++ when (G .angled e) angle ++ oneCell (rowNumber G (Jabr e q)) v)
+      → Rising 0 (ncon G) (ohmColumnCells G p e ++ when (G .angled e) angle ++ oneCell (rowNumber G (Jabr e q)) v)
   rise-branch p e q l h angle v a =
       let up = after (Angub e) (Anglb e) l l (omega arith) in
       up-to (ncon G) (within (Jabr e q) (l, h))

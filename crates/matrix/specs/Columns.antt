@@ -83,18 +83,18 @@ module _ (G : AcNetwork Float) where
       ++ boundCells i ++ each (G .m) (conesAt i)
 
   -- wr and wi: the four Ohm rows
-  unfoldable pub ohmCells : OhmPlace → ℕ → List Cell
-  ohmCells p e =
+  unfoldable pub ohmColumnCells : OhmPlace → ℕ → List Cell
+  ohmColumnCells p e =
       keep (ohmRow pf e) (ohmValue (branchAt rounded G e) pf p) ++ keep (ohmRow qf e) (ohmValue (branchAt rounded G e) qf p)
       ++ keep (ohmRow pt e) (ohmValue (branchAt rounded G e) pt p) ++ keep (ohmRow qt e) (ohmValue (branchAt rounded G e) qt p)
 
   unfoldable pub wrCells : ℕ → List Cell
   wrCells e =
-      ohmCells wr e ++ when (G .angled e) (keep (Angub e) (neg (G .tanmax e)) ++ keep (Anglb e) (G .tanmin e)) ++ at (Jabr e 1) (constant64 minusOne)
+      ohmColumnCells wr e ++ when (G .angled e) (keep (Angub e) (neg (G .tanmax e)) ++ keep (Anglb e) (G .tanmin e)) ++ at (Jabr e 1) (constant64 minusOne)
 
   unfoldable pub wiCells : ℕ → List Cell
   wiCells e =
-      ohmCells wi e ++ when (G .angled e) (at (Angub e) (constant64 one) ++ at (Anglb e) (constant64 minusOne)) ++ at (Jabr e 2) (constant64 minusOne)
+      ohmColumnCells wi e ++ when (G .angled e) (at (Angub e) (constant64 one) ++ at (Anglb e) (constant64 minusOne)) ++ at (Jabr e 2) (constant64 minusOne)
 
   -- pf, qf, pt and qt
   unfoldable pub flowCells : OhmRow → ℕ → List Cell

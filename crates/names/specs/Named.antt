@@ -2,7 +2,7 @@
 use Prim.Native.Nat.{ℕ}
 use mathlib.Core.List.{List}
 use lib.Dec.{ltb}
-use Rattle.refusals.specs.Refusals.{_orElse_, refuseUnless, numberOf as causeNumber, valueOf as causeValue}
+use Rattle.refusals.specs.Refusals.{_orElse_, refuseUnless, causeNumber, causeValue}
 use Rattle.refusals.specs.declared.Checked.{Checked}
 use Rattle.refusals.specs.declared.Checked.the-variants.{Accepted, Refused}
 use Rattle.refusals.specs.declared.Refusal.the-variants.{PastEnd}

@@ -6,7 +6,7 @@ use mathlib.Core.List.{List, _∷_, _++_}
 use lib.Dec.{ltb}
 use lib.ListN.{length, replicate}
 use Rattle.lists.specs.UpTo.{count}
-use Rattle.refusals.specs.Refusals.{_orElse_, roomFor, numberOf as causeNumber, valueOf as causeValue}
+use Rattle.refusals.specs.Refusals.{_orElse_, roomFor, causeNumber, causeValue}
 use Rattle.refusals.specs.declared.Checked.{Checked}
 use Rattle.refusals.specs.declared.Checked.the-variants.{Accepted, Refused}
 use Rattle.refusals.specs.declared.Refusal.the-variants.{PastEnd}

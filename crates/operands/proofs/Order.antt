@@ -11,10 +11,10 @@ use Rattle.records.proofs.Order.{checked}
 use Rattle.interface.specs.declared.Operand.{Operand}
 use Rattle.interface.proofs.Order.{rooms, rooms-of}
 use Rattle.elements.specs.Lengths.{hasOperand, operandLen}
-use Rattle.operands.specs.Selector.{operandCause, selectorCheck}
+use Rattle.operands.specs.Selector.{operandCause, operandCheck}
 
 pub selector-in-order : (n m k s : ℕ) (b : List ℕ) (o : Operand) (starts rows weights elements : ℕ)
-    → selectorCheck n m k s b o starts rows weights elements
+    → operandCheck n m k s b o starts rows weights elements
     ≡ byOrder (checkOf n m k s b ∷ refuseUnless (hasOperand o) NotInSocWr ∷ rooms (operandLen n m k o) starts rows weights elements)
 unfolding operandCause sooner
 selector-in-order n m k s b o starts rows weights elements = in-order (next (checked n m k s b) (next (alone _ _) (rooms-of _ _ _ _ _) refl) refl)

@@ -71,5 +71,5 @@ unfoldable pub operandCause : (n m k : ℕ) → Operand → (starts rows weights
 operandCause n m k o starts rows weights elements =
     refuseUnless (hasOperand o) NotInSocWr orElse selectorRoom (operandLen n m k o) starts rows weights elements
 
-abbrev pub selectorCheck : (n m k s : ℕ) → List ℕ → Operand → (starts rows weights elements : ℕ) → Checked
-selectorCheck n m k s b o starts rows weights elements = checkOf n m k s b orElse operandCause n m k o starts rows weights elements
+abbrev pub operandCheck : (n m k s : ℕ) → List ℕ → Operand → (starts rows weights elements : ℕ) → Checked
+operandCheck n m k s b o starts rows weights elements = checkOf n m k s b orElse operandCause n m k o starts rows weights elements

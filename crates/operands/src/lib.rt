@@ -11,7 +11,7 @@ ghost use Rattle.refusals.specs.Refusals.{leftIn};
 ghost use Rattle.records.specs.Network.{networkOf};
 ghost use Rattle.interface.specs.Selectors.{unitStarts, unitWeights, selectedIf};
 ghost use Rattle.elements.specs.Lengths.{operandLen};
-ghost use Rattle.operands.specs.Selector.{selectorCheck, selectorRows, selectorElements, selectorSign};
+ghost use Rattle.operands.specs.Selector.{operandCheck, selectorRows, selectorElements, selectorSign};
 
 mod inner;
 
@@ -28,11 +28,11 @@ pub fn operand_selector(
     weights: &mut [f64],
     elements: &mut [u32],
 ) -> Selected
-    ensures { λ r. ⌜ r ≡ selectedIf (selectorCheck n m k s (now (bytes .entry)) operand (length (now (starts .entry))) (length (now (rows .entry))) (length (now (weights .entry))) (length (now (elements .entry)))) (operandLen n m k operand) (selectorSign operand) ⌝ }
-    ensures { λ _. ⌜ now (starts .exit) ≡ leftIn (selectorCheck n m k s (now (bytes .entry)) operand (length (now (starts .entry))) (length (now (rows .entry))) (length (now (weights .entry))) (length (now (elements .entry)))) (unitStarts (operandLen n m k operand)) (now (starts .entry)) ⌝ }
-    ensures { λ _. ⌜ now (rows .exit) ≡ leftIn (selectorCheck n m k s (now (bytes .entry)) operand (length (now (starts .entry))) (length (now (rows .entry))) (length (now (weights .entry))) (length (now (elements .entry)))) (selectorRows (networkOf n m k s (now (bytes .entry))) operand) (now (rows .entry)) ⌝ }
-    ensures { λ _. ⌜ now (weights .exit) ≡ leftIn (selectorCheck n m k s (now (bytes .entry)) operand (length (now (starts .entry))) (length (now (rows .entry))) (length (now (weights .entry))) (length (now (elements .entry)))) (unitWeights (operandLen n m k operand)) (now (weights .entry)) ⌝ }
-    ensures { λ _. ⌜ now (elements .exit) ≡ leftIn (selectorCheck n m k s (now (bytes .entry)) operand (length (now (starts .entry))) (length (now (rows .entry))) (length (now (weights .entry))) (length (now (elements .entry)))) (selectorElements (operandLen n m k operand)) (now (elements .entry)) ⌝ }
+    ensures { λ r. ⌜ r ≡ selectedIf (operandCheck n m k s (now (bytes .entry)) operand (length (now (starts .entry))) (length (now (rows .entry))) (length (now (weights .entry))) (length (now (elements .entry)))) (operandLen n m k operand) (selectorSign operand) ⌝ }
+    ensures { λ _. ⌜ now (starts .exit) ≡ leftIn (operandCheck n m k s (now (bytes .entry)) operand (length (now (starts .entry))) (length (now (rows .entry))) (length (now (weights .entry))) (length (now (elements .entry)))) (unitStarts (operandLen n m k operand)) (now (starts .entry)) ⌝ }
+    ensures { λ _. ⌜ now (rows .exit) ≡ leftIn (operandCheck n m k s (now (bytes .entry)) operand (length (now (starts .entry))) (length (now (rows .entry))) (length (now (weights .entry))) (length (now (elements .entry)))) (selectorRows (networkOf n m k s (now (bytes .entry))) operand) (now (rows .entry)) ⌝ }
+    ensures { λ _. ⌜ now (weights .exit) ≡ leftIn (operandCheck n m k s (now (bytes .entry)) operand (length (now (starts .entry))) (length (now (rows .entry))) (length (now (weights .entry))) (length (now (elements .entry)))) (unitWeights (operandLen n m k operand)) (now (weights .entry)) ⌝ }
+    ensures { λ _. ⌜ now (elements .exit) ≡ leftIn (operandCheck n m k s (now (bytes .entry)) operand (length (now (starts .entry))) (length (now (rows .entry))) (length (now (weights .entry))) (length (now (elements .entry)))) (selectorElements (operandLen n m k operand)) (now (elements .entry)) ⌝ }
 {
     let checked = check_layout(n, m, k, s, bytes, 0);
     let check = checked.check;

@@ -9,7 +9,7 @@ use lib.Ieee.{Float, nan, inf, fin, binary64, ofBits, neg, add, div, lt, ne, isN
 use lib.Ieee.Compare.{differs-from-itself, nan-differs}
 use Rattle.lists.specs.UpTo.{upTo}
 use Rattle.lists.proofs.UpTo.{upTo-more}
-use Rattle.reading.specs.Cost.{max, line, parabola, highest, generatorCost, totalCost}
+use Rattle.reading.specs.Cost.{max, affine, parabola, highest, generatorCost, totalCost}
 use Rattle.records.specs.AcNetwork.{AcNetwork}
 use Rattle.records.specs.Fields.{segmentsOf, piecewiseOf, slopeOf, interceptOf, cqOf, clOf, ccOf}
 use Rattle.records.specs.Network.{networkOf, segmentsBefore, segmentRecord}
@@ -48,9 +48,9 @@ module _ (slope intercept : ℕ → Float) (x : Float) where
   unfolding highest upTo
   highest-none = refl
 
-  pub highest-more : (t : ℕ) → highest slope intercept (t + 1) x ≡ max (highest slope intercept t x) (line (slope t) (intercept t) x)
+  pub highest-more : (t : ℕ) → highest slope intercept (t + 1) x ≡ max (highest slope intercept t x) (affine (slope t) (intercept t) x)
   unfolding highest
-  highest-more t = upTo-more max (inf true) (λ t. line (slope t) (intercept t) x) t
+  highest-more t = upTo-more max (inf true) (λ t. affine (slope t) (intercept t) x) t
 
 -- ---- the sum over the generators below g
 abbrev pub total-so-far : AcNetwork Float → List Float → ℕ → Float

@@ -15,15 +15,15 @@ unfoldable pub max : Float → Float → Float
 max a v = cond (isNan a || lt a v) v a
 
 -- a x + b, a x² + b x + c
-unfoldable pub line : Float → Float → Float → Float
-line a b x = add binary64 (mul binary64 a x) b
+unfoldable pub affine : Float → Float → Float → Float
+affine a b x = add binary64 (mul binary64 a x) b
 
 unfoldable pub parabola : Float → Float → Float → Float → Float
 parabola a b c x = add binary64 (add binary64 (mul binary64 (mul binary64 a x) x) (mul binary64 b x)) c
 
 -- `evaluate`: slope x + intercept of each segment, from `f64::NEG_INFINITY` on by `f64::max`
 unfoldable pub highest : (ℕ → Float) → (ℕ → Float) → ℕ → Float → Float
-highest slope intercept count x = upTo max (inf true) (λ t. line (slope t) (intercept t) x) count
+highest slope intercept count x = upTo max (inf true) (λ t. affine (slope t) (intercept t) x) count
 
 module _ (G : AcNetwork Float) where
   abbrev pub evaluate : ℕ → Float → Float

@@ -5,7 +5,7 @@ use lib.Dec.{ltb}
 use lib.ListN.{length, getD}
 use lib.Ieee.{Float, nan, neg}
 use Rattle.lists.specs.UpTo.{listed}
-use Rattle.refusals.specs.Refusals.{_orElse_, refuseUnless, roomFor, numberOf, valueOf}
+use Rattle.refusals.specs.Refusals.{_orElse_, refuseUnless, roomFor, causeNumber, causeValue}
 use Rattle.refusals.specs.declared.Checked.{Checked}
 use Rattle.refusals.specs.declared.Checked.the-variants.{Accepted, Refused}
 use Rattle.refusals.specs.declared.Refusal.the-variants.{PastEnd}
@@ -108,11 +108,11 @@ module _ (n m k s : ℕ) (b : List ℕ) where
 -- ---- the number and the values of a scalar answer: 0, 0 and the result, or the cause's and 0.0
 abbrev pub scalarNumber : Scalar → ℕ
 scalarNumber (Scalar.Value v) = 0
-scalarNumber (Scalar.Refused cause) = numberOf cause
+scalarNumber (Scalar.Refused cause) = causeNumber cause
 
 abbrev pub scalarValue : Scalar → ℕ
 scalarValue (Scalar.Value v) = 0
-scalarValue (Scalar.Refused cause) = valueOf cause
+scalarValue (Scalar.Refused cause) = causeValue cause
 
 abbrev pub scalarResult : Scalar → Float
 scalarResult (Scalar.Value v) = v

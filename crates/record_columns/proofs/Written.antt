@@ -23,14 +23,14 @@ use Rattle.numbering.specs.declared.RowName.the-variants.{Segment}
 use Rattle.numbering.proofs.Numbers.{row-number, layout-row}
 use Rattle.numbering.proofs.Laid.{limits-are}
 use Rattle.rows.specs.Rows.{wr, wi, ohmValue, zero64, minusOne, constant64}
-use Rattle.matrix.specs.Columns.{nonzeroCell, oneCell, slopeCell, costCell, costCells, ohmCells}
+use Rattle.matrix.specs.Columns.{nonzeroCell, oneCell, slopeCell, costCell, costCells, ohmColumnCells}
 use Rattle.branch.specs.declared.Series.{Series}
 use Rattle.branch.specs.declared.Products.{Products}
 use Rattle.cells.specs.Columns.{Columns}
 use Rattle.cells.proofs.Ends.{columns-turn}
 use Rattle.branch.specs.Series.{seriesOf}
 use Rattle.branch.specs.Ohm.{branchWith, productsOf}
-use Rattle.record_columns.specs.Writers.{slopes, ones, products, costTurn}
+use Rattle.record_columns.specs.Writers.{slopes, ones, productCells, costTurn}
 
 one-or-none : {A : Type 0} (b : Bool) (x : A) → length (when b (x ∷ [])) ≡ bit b
 one-or-none true x = refl
@@ -68,12 +68,12 @@ module _ (l : SocWrLayout) (bytes : List ℕ) where
   unfolding costTurn
   turned g h e k = columns-turn (costTurn G) h e k
 
-  pub wr-are : (e : ℕ) {p : Products} {x : Series} → p ≡ productsOf (branchWith x zero64) wr → x ≡ seriesOf (branchAt rounded G e) → products G e p ≡ ohmCells G wr e
-  unfolding products ohmCells ohmValue
+  pub wr-are : (e : ℕ) {p : Products} {x : Series} → p ≡ productsOf (branchWith x zero64) wr → x ≡ seriesOf (branchAt rounded G e) → productCells G e p ≡ ohmColumnCells G wr e
+  unfolding productCells ohmColumnCells ohmValue
   wr-are e p q = rw (p, q)
 
-  pub wi-are : (e : ℕ) {p : Products} {x : Series} → p ≡ productsOf (branchWith x zero64) wi → x ≡ seriesOf (branchAt rounded G e) → products G e p ≡ ohmCells G wi e
-  unfolding products ohmCells ohmValue
+  pub wi-are : (e : ℕ) {p : Products} {x : Series} → p ≡ productsOf (branchWith x zero64) wi → x ≡ seriesOf (branchAt rounded G e) → productCells G e p ≡ ohmColumnCells G wi e
+  unfolding productCells ohmColumnCells ohmValue
   wi-are e p q = rw (p, q)
 
   module _ (laid : Laid l bytes) where

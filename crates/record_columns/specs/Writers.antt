@@ -29,8 +29,8 @@ ones row t = oneCell (row + t) (constant64 minusOne)
 unfoldable pub costTurn : AcNetwork Float → ℕ → List (List Cell)
 costTurn G g = when (G .piecewise g) (costCells G g ∷ [])
 
-unfoldable pub products : AcNetwork Float → ℕ → Products → List Cell
-products G e p = keep G (OhmPf e) (p .pf) ++ keep G (OhmQf e) (p .qf) ++ keep G (OhmPt e) (p .pt) ++ keep G (OhmQt e) (p .qt)
+unfoldable pub productCells : AcNetwork Float → ℕ → Products → List Cell
+productCells G e p = keep G (OhmPf e) (p .pf) ++ keep G (OhmQf e) (p .qf) ++ keep G (OhmPt e) (p .pt) ++ keep G (OhmQt e) (p .qt)
 
 unfoldable pub wrAngles : AcNetwork Float → ℕ → List Cell
 wrAngles G e = when (G .angled e) (keep G (Angub e) (neg (G .tanmax e)) ++ keep G (Anglb e) (G .tanmin e))

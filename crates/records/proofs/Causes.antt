@@ -15,7 +15,7 @@ use Rattle.refusals.specs.declared.Checked.the-variants.{Accepted, Refused}
 use Rattle.refusals.specs.declared.Refusal.the-variants.{BadRecord}
 use Rattle.refusals.proofs.Laws.{accepted-first, accepted-by, refused-by, orElse-refused, orElse-accepted, test-held}
 use Rattle.records.specs.Fields.{bitsOf, countOf}
-use Rattle.records.specs.Check.{pick, zeroFloats, countCause, busCause, branchCause, genCause, segmentCause, recordCause, recordCauses, firstCause, countSum, sumCause}
+use Rattle.records.specs.Check.{choose, zeroFloats, countCause, busCause, branchCause, genCause, segmentCause, recordCause, recordCauses, firstCause, countSum, sumCause}
 
 module _ (n m k s : ℕ) where
   pub counts-in-range : countCause n m k s ≡ Accepted → (n ≤ 4096) × (m ≤ 8192) × (k ≤ 4096) × (s ≤ 65536)
@@ -99,19 +99,19 @@ module _ (f : ℕ → Checked) (first : ℕ) where
 module _ (n m k : ℕ) (b : List ℕ) where
   -- which kind a record is of
   pub bus-kind : (i : ℕ) → i < n → recordCause n m k b i ≡ busCause b i
-  unfolding recordCause pick
+  unfolding recordCause choose
   bus-kind i h = simp (lt-ltb i n h)
 
   pub branch-kind : (e : ℕ) → e < m → recordCause n m k b (n + e) ≡ branchCause n b (n + e)
-  unfolding recordCause pick
+  unfolding recordCause choose
   branch-kind e h = simp (le-ltb (n + e) n (omega arith), lt-ltb (n + e) (n + m) (omega arith))
 
   pub gen-kind : (g : ℕ) → g < k → recordCause n m k b (n + m + g) ≡ genCause n b (n + m + g)
-  unfolding recordCause pick
+  unfolding recordCause choose
   gen-kind g h = simp (le-ltb (n + m + g) n (omega arith), le-ltb (n + m + g) (n + m) (omega arith), lt-ltb (n + m + g) (n + m + k) (omega arith))
 
   pub segment-kind : (t : ℕ) → recordCause n m k b (n + m + k + t) ≡ segmentCause b (n + m + k + t)
-  unfolding recordCause pick
+  unfolding recordCause choose
   segment-kind t =
       simp (le-ltb (n + m + k + t) n (omega arith), le-ltb (n + m + k + t) (n + m) (omega arith), le-ltb (n + m + k + t) (n + m + k) (omega arith))
 

@@ -14,7 +14,7 @@ use Rattle.refusals.specs.declared.Refusal.the-variants.{CountTooLarge, Records
 use Rattle.refusals.specs.declared.Checked.{Checked}
 use Rattle.refusals.proofs.Order.{InOrder, in-order, alone, next, whole, wider, by-turn, no-cause}
 use Rattle.records.specs.Fields.{fromOf, toOf, genBusOf}
-use Rattle.records.specs.Check.{countCause, lengthCause, busForm, branchForm, genForm, segmentForm, busCause, branchCause, genCause, segmentCause, pick, recordCause, recordCauses, sumCause, checkOf}
+use Rattle.records.specs.Check.{countCause, lengthCause, busForm, branchForm, genForm, segmentForm, busCause, branchCause, genCause, segmentCause, choose, recordCause, recordCauses, sumCause, checkOf}
 
 -- what the tests of record r that are made answer, as one check
 abbrev OfRecord : ℕ → Checked → Type 0
@@ -57,8 +57,8 @@ module _ (n : ℕ) (b : List ℕ) (r : ℕ) where
   unfolding segmentCause
   segment-of = wider (alone _ _) kept (by-turn (BadRecord (suc r)) (BadRecord r) refl (omega arith))
 
-picked : (t : Bool) (r : ℕ) (c d : Checked) → OfRecord r c → OfRecord r d → OfRecord r (pick t c d)
-unfolding pick
+picked : (t : Bool) (r : ℕ) (c d : Checked) → OfRecord r c → OfRecord r d → OfRecord r (choose t c d)
+unfolding choose
 picked true r c d x y = x
 picked false r c d x y = y
 

@@ -74,16 +74,16 @@ genCause n b r = refuseUnless (genForm b r) (BadRecord r) orElse refuseUnless (l
 unfoldable pub segmentCause : List ℕ → ℕ → Checked
 segmentCause b r = refuseUnless (segmentForm b r) (BadRecord r)
 
-unfoldable pub pick : Bool → Checked → Checked → Checked
-pick true c d = c
-pick false c d = d
+unfoldable pub choose : Bool → Checked → Checked → Checked
+choose true c d = c
+choose false c d = d
 
 -- "buses first, then branches, generators, segments"
 unfoldable pub recordCause : ℕ → ℕ → ℕ → List ℕ → ℕ → Checked
 recordCause n m k b r =
-    pick (ltb r n) (busCause b r)
-    (pick (ltb r (n + m)) (branchCause n b r)
-    (pick (ltb r (n + m + k)) (genCause n b r)
+    choose (ltb r n) (busCause b r)
+    (choose (ltb r (n + m)) (branchCause n b r)
+    (choose (ltb r (n + m + k)) (genCause n b r)
     (segmentCause b r)))
 
 -- the first cause among the count records from the first on, f r being that of record r

@@ -12,36 +12,36 @@ use Rattle.refusals.specs.declared.Written.{Written}
 use Rattle.refusals.specs.declared.Written.the-variants as Written
 
 -- the table's column 'number'
-abbrev pub numberOf : Refusal → ℕ
-numberOf (CountTooLarge which) = 1
-numberOf (RecordsLength length) = 2
-numberOf (BadRecord r) = 3
-numberOf (NoSuchBus r) = 4
-numberOf (EqualEnds r) = 5
-numberOf (SolutionLength list) = 6
-numberOf (PastEnd index) = 7
-numberOf (PiecewiseCost id) = 8
-numberOf NotInSocWr = 9
-numberOf (OutputTooShort need) = 10
-numberOf ModeAuto = 11
-numberOf BadLists = 12
-numberOf InputTooLong = 13
+abbrev pub causeNumber : Refusal → ℕ
+causeNumber (CountTooLarge which) = 1
+causeNumber (RecordsLength length) = 2
+causeNumber (BadRecord r) = 3
+causeNumber (NoSuchBus r) = 4
+causeNumber (EqualEnds r) = 5
+causeNumber (SolutionLength list) = 6
+causeNumber (PastEnd index) = 7
+causeNumber (PiecewiseCost id) = 8
+causeNumber NotInSocWr = 9
+causeNumber (OutputTooShort need) = 10
+causeNumber ModeAuto = 11
+causeNumber BadLists = 12
+causeNumber InputTooLong = 13
 
 -- the table's column 'returned'
-abbrev pub valueOf : Refusal → ℕ
-valueOf (CountTooLarge which) = which
-valueOf (RecordsLength length) = length
-valueOf (BadRecord r) = r
-valueOf (NoSuchBus r) = r
-valueOf (EqualEnds r) = r
-valueOf (SolutionLength list) = list
-valueOf (PastEnd index) = index
-valueOf (PiecewiseCost id) = id
-valueOf NotInSocWr = 0
-valueOf (OutputTooShort need) = need
-valueOf ModeAuto = 0
-valueOf BadLists = 0
-valueOf InputTooLong = 512
+abbrev pub causeValue : Refusal → ℕ
+causeValue (CountTooLarge which) = which
+causeValue (RecordsLength length) = length
+causeValue (BadRecord r) = r
+causeValue (NoSuchBus r) = r
+causeValue (EqualEnds r) = r
+causeValue (SolutionLength list) = list
+causeValue (PastEnd index) = index
+causeValue (PiecewiseCost id) = id
+causeValue NotInSocWr = 0
+causeValue (OutputTooShort need) = need
+causeValue ModeAuto = 0
+causeValue BadLists = 0
+causeValue InputTooLong = 512
 
 -- ---- checks
 -- "refuses .. by the first in this order": the first of two answers that refuses
@@ -66,11 +66,11 @@ roomFor need there = refuseUnless (leb need there) (OutputTooShort need)
 -- the number and the value of a check's answer; 0 and 0 where it accepts
 abbrev pub checkedNumber : Checked → ℕ
 checkedNumber Accepted = 0
-checkedNumber (Refused cause) = numberOf cause
+checkedNumber (Refused cause) = causeNumber cause
 
 abbrev pub checkedValue : Checked → ℕ
 checkedValue Accepted = 0
-checkedValue (Refused cause) = valueOf cause
+checkedValue (Refused cause) = causeValue cause
 
 -- ---- answers of an entry that writes
 unfoldable pub writtenIf : Checked → ℕ → Written
@@ -80,11 +80,11 @@ writtenIf (Refused cause) n = Written.Refused cause
 -- the number and the value of such an answer: 0 and the count, or the cause's
 abbrev pub writtenNumber : Written → ℕ
 writtenNumber (Written.Count n) = 0
-writtenNumber (Written.Refused cause) = numberOf cause
+writtenNumber (Written.Refused cause) = causeNumber cause
 
 abbrev pub writtenValue : Written → ℕ
 writtenValue (Written.Count n) = n
-writtenValue (Written.Refused cause) = valueOf cause
+writtenValue (Written.Refused cause) = causeValue cause
 
 -- "left as it was", and "output past the length needed is unchanged": what a lent list holds after xs was to be written to its front.
 -- Floats have one nan (lib.Ieee): of a NaN that is left alone this says that it is a NaN still, not which bits it has. Those are run, not

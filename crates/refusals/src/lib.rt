@@ -1,6 +1,6 @@
 // The causes that turn an input away, and the answers that hold one.
 ghost use mathlib.Core.Path.{_≡_};
-ghost use Rattle.refusals.specs.Refusals.{numberOf, valueOf, isRefused, refuseUnless, roomFor, _orElse_, writtenIf};
+ghost use Rattle.refusals.specs.Refusals.{causeNumber, causeValue, isRefused, refuseUnless, roomFor, _orElse_, writtenIf};
 
 // A cause of document 01. What a case holds is the value returned with its number.
 pub enum Refusal {
@@ -46,7 +46,7 @@ pub enum Written {
 
 // Document 01's number of a cause.
 pub fn number_of(r: Refusal) -> u64
-    ensures { λ x. ⌜ x ≡ numberOf r ⌝ }
+    ensures { λ x. ⌜ x ≡ causeNumber r ⌝ }
 {
     match r {
         Refusal::CountTooLarge(_) => 1,
@@ -67,7 +67,7 @@ pub fn number_of(r: Refusal) -> u64
 
 // The value that document 01 returns with the number.
 pub fn value_of(r: Refusal) -> u64
-    ensures { λ x. ⌜ x ≡ valueOf r ⌝ }
+    ensures { λ x. ⌜ x ≡ causeValue r ⌝ }
 {
     match r {
         Refusal::CountTooLarge(which) => which,

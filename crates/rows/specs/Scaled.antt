@@ -45,12 +45,12 @@ module _ {A : Type 0} (o : Ops A) where
 
   -- 2 tm2 times A x at row r, where x holds the columns' values
   module _ (x : ColumnName → A) where
-    abbrev pub sum : A → List (Cell A) → A
-    sum tm2 [] = zero
-    sum tm2 (c ∷ cs) = scaled tm2 (c .value) * x (c .column) + sum tm2 cs
+    abbrev pub sumOver : A → List (Cell A) → A
+    sumOver tm2 [] = zero
+    sumOver tm2 (c ∷ cs) = scaled tm2 (c .value) * x (c .column) + sumOver tm2 cs
 
     abbrev pub row : AcNetwork A → RowName → A
-    row G r = sum (under o G r) (cells o G r)
+    row G r = sumOver (under o G r) (cells o G r)
 
 -- what the code computes (`value64`) is the rounded quotient of numerator and denominator; a number as it stands has none
 abbrev pub Quotient : Float → Coefficient Float → Type 0

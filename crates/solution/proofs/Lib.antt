@@ -1,3 +1,2 @@
 pub mod Lengths
-pub mod Entry
 pub mod Order

@@ -13,7 +13,7 @@ ghost use Prim.Native.Nat.{_<_};
 ghost use Rattle.numbering.specs.Layout.{InRange, layoutColumn};
 ghost use Rattle.numbering.specs.Laid.{netOf, Laid};
 ghost use Rattle.rows.specs.Rows.{constant64};
-ghost use Rattle.balance.specs.Ends.{endCount, endBus, endColumn, endConstant, selfValue};
+ghost use Rattle.balance.specs.Ends.{endCount, busAt, endColumn, endConstant, selfValue};
 
 pub(crate) fn count_at(l: SocWrLayout, end: End) -> usize
     ensures { λ r. ⌜ r ≡ endCount l end ⌝ }
@@ -29,7 +29,7 @@ pub(crate) fn count_at(l: SocWrLayout, end: End) -> usize
 pub(crate) fn bus_at(l: SocWrLayout, bytes: &[u8], end: End, j: usize) -> usize
     requires { ⌜ Laid l (now bytes) ⌝ }
     requires { ⌜ j < endCount l end ⌝ }
-    ensures { λ r. ⌜ r ≡ endBus (netOf l (now (bytes .entry))) end j ⌝ }
+    ensures { λ r. ⌜ r ≡ busAt (netOf l (now (bytes .entry))) end j ⌝ }
 {
     match end {
         End::Gen => wide(gen_bus(bytes, l.n + l.m + j)),

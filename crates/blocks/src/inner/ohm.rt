@@ -12,12 +12,12 @@ ghost use Rattle.lists.specs.UpTo.{each};
 ghost use Rattle.kkt.specs.Kkt.{plainRow};
 ghost use Rattle.rows.specs.Rows.{ohmRow};
 ghost use Rattle.branch.specs.Ohm.{rowKind};
-ghost use Rattle.lines.specs.Ohm.{ohmAt};
+ghost use Rattle.lines.specs.Ohm.{ohmEntries};
 ghost use Rattle.numbering.specs.Laid.{netOf, Laid};
 
 fn put_ohm(rows: &mut [u32], cols: &mut [u32], vals: &mut [f64], at: usize, r: u32, o: Ohm) -> usize
-    requires { ⌜ at + length (ohmAt r o) < 2 ^ 64 ⌝ }
-    ensures { λ next. ⌜ Wrote (ohmAt r o) (out (now (rows .entry)) (now (cols .entry)) (now (vals .entry)) at) (out (now (rows .exit)) (now (cols .exit)) (now (vals .exit)) next) ⌝ }
+    requires { ⌜ at + length (ohmEntries r o) < 2 ^ 64 ⌝ }
+    ensures { λ next. ⌜ Wrote (ohmEntries r o) (out (now (rows .entry)) (now (cols .entry)) (now (vals .entry)) at) (out (now (rows .exit)) (now (cols .exit)) (now (vals .exit)) next) ⌝ }
 {
     let a = o.at_w;
     let b = o.at_wr;

@@ -7,7 +7,7 @@ use Rattle.refusals.specs.declared.Checked.the-variants.{Accepted}
 use Rattle.refusals.proofs.Laws.{accepted-by, refused-by}
 use Rattle.records.specs.Check.{checkOf}
 use Rattle.numbering.proofs.OnePass.{pass-layout, pass-laid, pass-before}
-use Rattle.solution.proofs.Entry.{answer-first, left-first, then-second}
+use Rattle.refusals.proofs.Entry.{answer-first, left-first, then-second}
 use Rattle.columns.proofs.parameter_jacobian.Statement.{statement}
 use Rattle.columns.proofs.parameter_jacobian.Tie as tie
 

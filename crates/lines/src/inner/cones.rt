@@ -11,12 +11,12 @@ use records::inner::br_to;
 use records::inner::rate_a;
 ghost use mathlib.Core.Path.{_≡_};
 ghost use mathlib.Core.Bool.{true};
-ghost use Prim.Native.Nat.{_+_, _<_, _^_};
+ghost use Prim.Native.Nat.{_+_, _<_};
 ghost use Rattle.lists.specs.UpTo.{count};
 ghost use Rattle.numbering.specs.declared.RowName.the-variants.{Jabr};
 ghost use Rattle.numbering.specs.Laid.{netOf, Laid};
 ghost use Rattle.rows.specs.Program.{thermalFrom, thermalTo};
-ghost use Rattle.lines.specs.Line.{ends as endsOf, thermal as thermalOf, coneLine, ConeStands};
+ghost use Rattle.lines.specs.Line.{endsLine as endsOf, thermal as thermalOf, coneLine, ConeStands};
 
 // Row l of a cone.
 pub fn line_of(c: Cone, l: usize) -> Line
@@ -56,22 +56,20 @@ pub fn jabr(l: SocWrLayout, bytes: &[u8], e: usize) -> Cone
     requires { ⌜ e < l .m ⌝ }
     ensures { λ r. ⌜ ConeStands (netOf l (now (bytes .entry))) 4 (Jabr e) r ⌝ }
 {
-    let row = l.jabr_row(e, 0);
-    let a = ends(l, bytes, e, row, -0.5);
-    let b = single(row + 1, 0.0, true, l.wr_column(e), -1.0);
-    let c = single(row + 2, 0.0, true, l.wi_column(e), -1.0);
-    let d = ends(l, bytes, e, row + 3, 0.5);
+    let a = ends(l, bytes, e, l.jabr_row(e, 0), -0.5);
+    let b = single(l.jabr_row(e, 1), 0.0, true, l.wr_column(e), -1.0);
+    let c = single(l.jabr_row(e, 2), 0.0, true, l.wi_column(e), -1.0);
+    let d = ends(l, bytes, e, l.jabr_row(e, 3), 0.5);
     Cone { a, b, c, d }
 }
 
-// rate_a at the first row, then -1 at the flows p and q.
-fn thermal(row: u32, rate: f64, p: u32, q: u32) -> Cone
-    requires { ⌜ row + 2 < 2 ^ 32 ⌝ }
-    ensures { λ r. ⌜ r ≡ thermalOf row rate p q ⌝ }
+// rate_a at the first of three rows, then -1 at the flows p and q.
+fn thermal(first: u32, second: u32, third: u32, rate: f64, p: u32, q: u32) -> Cone
+    ensures { λ r. ⌜ r ≡ thermalOf first second third rate p q ⌝ }
 {
-    let a = single(row, rate, false, p, 0.0);
-    let b = single(row + 1, 0.0, true, p, -1.0);
-    let c = single(row + 2, 0.0, true, q, -1.0);
+    let a = single(first, rate, false, p, 0.0);
+    let b = single(second, 0.0, true, p, -1.0);
+    let c = single(third, 0.0, true, q, -1.0);
     Cone { a, b, c, d: c }
 }
 
@@ -81,8 +79,17 @@ pub fn thermal_from(l: SocWrLayout, bytes: &[u8], e: usize, limits: usize) -> Co
     requires { ⌜ (e < l .m) × (netOf l (now bytes) .limited e ≡ true) × (limits ≡ count e (netOf l (now bytes) .limited)) ⌝ }
     ensures { λ r. ⌜ ConeStands (netOf l (now (bytes .entry))) 3 (thermalFrom e) r ⌝ }
 {
-    let row = l.thermal_row(limits, 0);
-    thermal(row, rate_a(bytes, l.n + e), l.pf_column(e), l.qf_column(e))
+    let a = l.thermal_row(limits, 0);
+    let b = l.thermal_row(limits, 1);
+    let c = l.thermal_row(limits, 2);
+    thermal(
+        a,
+        b,
+        c,
+        rate_a(bytes, l.n + e),
+        l.pf_column(e),
+        l.qf_column(e),
+    )
 }
 
 pub fn thermal_to(l: SocWrLayout, bytes: &[u8], e: usize, limits: usize) -> Cone
@@ -90,6 +97,15 @@ pub fn thermal_to(l: SocWrLayout, bytes: &[u8], e: usize, limits: usize) -> Cone
     requires { ⌜ (e < l .m) × (netOf l (now bytes) .limited e ≡ true) × (limits ≡ count e (netOf l (now bytes) .limited)) ⌝ }
     ensures { λ r. ⌜ ConeStands (netOf l (now (bytes .entry))) 3 (thermalTo e) r ⌝ }
 {
-    let row = l.thermal_row(limits, 3);
-    thermal(row, rate_a(bytes, l.n + e), l.pt_column(e), l.qt_column(e))
+    let a = l.thermal_row(limits, 3);
+    let b = l.thermal_row(limits, 4);
+    let c = l.thermal_row(limits, 5);
+    thermal(
+        a,
+        b,
+        c,
+        rate_a(bytes, l.n + e),
+        l.pt_column(e),
+        l.qt_column(e),
+    )
 }

@@ -2,7 +2,7 @@
 use borrow.Author.Needs.{needs}
 use Rattle.refusals.proofs.Laws.{accepted-by, refused-by}
 use Rattle.numbering.proofs.OnePass.{pass-layout, pass-laid}
-use Rattle.solution.proofs.Entry.{left-first, then-second}
+use Rattle.refusals.proofs.Entry.{left-first, then-second}
 use Rattle.interface.proofs.Selectors.{selected-first}
 use Rattle.operands.proofs.operand_selector.Statement.{statement}
 use Rattle.operands.proofs.operand_selector.Tie as tie

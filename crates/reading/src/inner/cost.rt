@@ -7,7 +7,7 @@ ghost use lib.ListN.{length};
 ghost use Rattle.records.specs.Fields.{piecewiseOf, slopeOf, interceptOf, cqOf, clOf, ccOf};
 ghost use Rattle.numbering.specs.Layout.{nvarOf};
 ghost use Rattle.numbering.specs.Laid.{netOf, Laid};
-ghost use Rattle.reading.specs.Cost.{max as greater, line as lineOf, parabola as parabolaOf, highest, totalCost};
+ghost use Rattle.reading.specs.Cost.{max as greater, affine as lineOf, parabola as parabolaOf, highest, totalCost};
 
 fn max(a: f64, v: f64) -> f64
     ensures { λ r. ⌜ r ≡ greater a v ⌝ }

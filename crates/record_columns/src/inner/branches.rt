@@ -25,7 +25,7 @@ ghost use Rattle.numbering.specs.declared.ColumnName.the-variants.{Wr, Wi};
 ghost use Rattle.matrix.specs.Columns.{wrCells, wiCells, flowCells, balanceRow, thermalPlace};
 ghost use Rattle.branch.specs.Ohm.{rowKind};
 ghost use Rattle.cells.specs.Columns.{Columns};
-ghost use Rattle.record_columns.specs.Writers.{wrAngles, products, flow};
+ghost use Rattle.record_columns.specs.Writers.{wrAngles, productCells, flow};
 
 // The four Ohm rows of branch e.
 fn put_products(
@@ -39,7 +39,7 @@ fn put_products(
 ) -> usize
     requires { ⌜ Laid l (now bytes) ⌝ }
     requires { ⌜ (e < l .m) × (at < 1000000) ⌝ }
-    ensures { λ x. ⌜ WroteCells (products (netOf l (now (bytes .entry))) e p) (cellOut (now (rows .entry)) (now (vals .entry)) at) (cellOut (now (rows .exit)) (now (vals .exit)) x) ⌝ }
+    ensures { λ x. ⌜ WroteCells (productCells (netOf l (now (bytes .entry))) e p) (cellOut (now (rows .entry)) (now (vals .entry)) at) (cellOut (now (rows .exit)) (now (vals .exit)) x) ⌝ }
     ensures { λ x. ⌜ x ≤ at + 4 ⌝ }
 {
     let r1 = l.ohm_pf_row(e);

@@ -4,4 +4,4 @@ use Rattle.lines.proofs.inner.cones.thermal.Statement.{statement}
 use Rattle.lines.proofs.inner.cones.thermal.Tie as tie
 
 pub thermal-spec : {M : Type 1} → statement M
-thermal-spec = tie.close (tie.spec (λ c κs. search needs) (λ c. search needs) (λ c κs. search needs) (λ c. search needs) (λ c κs. search needs) (λ c. cc))
+thermal-spec = tie.close (tie.spec (λ c κs. search needs) (λ c κs. search needs) (λ c κs. search needs) (λ c. cc))

@@ -5,7 +5,7 @@ use denote.Ref.{now}
 use Rattle.lists.proofs.Compressed.{then}
 use Rattle.numbering.specs.declared.RowName.the-variants.{OhmPf, OhmQf, OhmPt, OhmQt}
 use Rattle.numbering.proofs.Laid.{laid-row}
-use Rattle.record_columns.specs.Writers.{products}
+use Rattle.record_columns.specs.Writers.{productCells}
 use borrow.Author.Needs.{needs}
 use Rattle.record_columns.proofs.inner.branches.put_products.Statement.{statement}
 use Rattle.record_columns.proofs.inner.branches.put_products.Tie as tie
@@ -14,7 +14,7 @@ put-nonzero-requires-4 : tie.Need-put-nonzero-requires-4
 put-nonzero-requires-4 c κs = omega (arith, c .before .before .before .before .before .before .before .before .before .before .before .before .before .before .before .before .before .before .before .before .put-nonzero .ensures .1, c .before .before .before .before .before .before .before .before .before .before .before .before .before .put-nonzero2 .ensures .1, c .before .before .before .before .before .before .put-nonzero3 .ensures .1, c .before .before .before .before .before .before .before .before .before .before .before .before .before .before .before .before .before .before .before .before .before .before .before .before .before .before .before .before .before .before .pre .1)
 
 returns : tie.Need-returns
-unfolding products
+unfolding productCells
 returns c =
     let s = c .before .before .before .before .before .before .before .before .before .before .before .before .before .before .before .before .before .before .before .before .before .before .before .before .before .before .before .before .before .before .before .before .before .before .before in
     let a = s .args in
