@@ -10,7 +10,9 @@ use Rattle.numbering.specs.declared.ColumnName.the-variants.{W, Wr, Wi}
 use Rattle.numbering.specs.declared.RowName.{RowName}
 use Rattle.numbering.specs.declared.RowName.the-variants.{OhmPf, OhmQf, OhmPt, OhmQt}
 use Rattle.ring.specs.Ops.{rounded}
-use Rattle.rows.specs.Rows.{value64, OhmRow, pf, qf, pt, qt, OhmPlace, w, wr, wi, flow}
+use Rattle.rows.specs.Rows.{value64, OhmPlace, w, wr, wi, flow}
+use Rattle.rows.specs.declared.OhmRow.{OhmRow}
+use Rattle.rows.specs.declared.OhmRow.the-variants.{Pf as pf, Qf as qf, Pt as pt, Qt as qt}
 use Rattle.interface.specs.declared.GB.{GB}
 use Rattle.admittance.specs.Stores.{Store, plus}
 use Rattle.admittance.specs.Series.{Slope, series}

@@ -1,7 +1,9 @@
 -- The ten entries of dA by a branch's series conductance or susceptance (`parameter_jacobian`, SeriesAdmittance), in the order of the code.
 use mathlib.Core.List.{List, [], _∷_}
 use Rattle.ring.specs.Ops.{Ops}
-use Rattle.rows.specs.Rows.{Coefficient, over, constant, one, minusOne, OhmRow, pf, qf, pt, qt, OhmPlace, w, wr, wi}
+use Rattle.rows.specs.Rows.{Coefficient, over, constant, one, minusOne, OhmPlace, w, wr, wi}
+use Rattle.rows.specs.declared.OhmRow.{OhmRow}
+use Rattle.rows.specs.declared.OhmRow.the-variants.{Pf as pf, Qf as qf, Pt as pt, Qt as qt}
 use Rattle.interface.specs.declared.GB.{GB}
 use Rattle.interface.specs.declared.GB.the-variants.{Conductance, Susceptance}
 

@@ -16,7 +16,8 @@ use Rattle.numbering.specs.Layout.{nvarOf}
 use Rattle.numbering.specs.Laid.{netOf, Laid}
 use Rattle.numbering.specs.declared.SocWrLayout.{SocWrLayout}
 use Rattle.numbering.proofs.Laid.{laid-nvar}
-use Rattle.rows.specs.Rows.{OhmRow, pf, qf, pt, qt}
+use Rattle.rows.specs.declared.OhmRow.{OhmRow}
+use Rattle.rows.specs.declared.OhmRow.the-variants.{Pf as pf, Qf as qf, Pt as pt, Qt as qt}
 use Rattle.rows.specs.Program.{matrix}
 use Rattle.matrix.specs.Columns.{oneCell, wCells, flowCells}
 use Rattle.matrix.proofs.Same.{matrix-columns}

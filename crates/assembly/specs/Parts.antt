@@ -10,7 +10,7 @@ use Rattle.lists.specs.Compressed.{joined}
 use Rattle.records.specs.AcNetwork.{AcNetwork}
 use Rattle.numbering.specs.declared.SocWrLayout.{SocWrLayout}
 use Rattle.numbering.specs.Laid.{netOf}
-use Rattle.rows.specs.Rows.{pf, qf, pt, qt}
+use Rattle.rows.specs.declared.OhmRow.the-variants.{Pf as pf, Qf as qf, Pt as pt, Qt as qt}
 use Rattle.rows.specs.Program.{matrix}
 use Rattle.matrix.specs.Columns.{pgCells, qgCells, wrCells, wiCells, flowCells}
 use Rattle.record_columns.specs.Writers.{costTurn}

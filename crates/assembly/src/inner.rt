@@ -1,5 +1,4 @@
 // A by compressed columns: its parts one after the other, and their count.
-use branch::OhmRow;
 use bus_columns::inner::counts::count_from;
 use bus_columns::inner::counts::count_own;
 use bus_columns::inner::counts::count_to;
@@ -12,6 +11,7 @@ use record_columns::inner::branches::put_wrs;
 use record_columns::inner::generators::put_costs;
 use record_columns::inner::generators::put_pgs;
 use record_columns::inner::generators::put_qgs;
+use rows::OhmRow;
 ghost use mathlib.Core.Path.{_≡_};
 ghost use Prim.Native.Nat.{_+_, _*_, _≤_, _<_};
 ghost use lib.ListN.{length};

@@ -2,7 +2,9 @@
 use mathlib.Core.Path.{_≡_}
 use lib.Ieee.{Float}
 use Rattle.rows.specs.Branch.{Branch}
-use Rattle.rows.specs.Rows.{OhmRow, pf, qf, pt, qt, w, wr, wi, zero64, ohmValue}
+use Rattle.rows.specs.Rows.{w, wr, wi, zero64, ohmValue}
+use Rattle.rows.specs.declared.OhmRow.{OhmRow}
+use Rattle.rows.specs.declared.OhmRow.the-variants.{Pf as pf, Qf as qf, Pt as pt, Qt as qt}
 use Rattle.branch.specs.Series.{seriesOf}
 use Rattle.branch.specs.Ohm.{shuntOf, branchWith}
 use Rattle.branch.specs.declared.Series.{Series}

@@ -1,18 +1,11 @@
 -- The coefficients of the Ohm rows as the code gathers them.
 use lib.Ieee.{Float}
 use Rattle.rows.specs.Branch.{Branch}
-use Rattle.rows.specs.Rows.{OhmRow, pf, qf, pt, qt, OhmPlace, ohmValue}
+use Rattle.rows.specs.Rows.{OhmPlace, ohmValue}
+use Rattle.rows.specs.declared.OhmRow.{OhmRow}
+use Rattle.rows.specs.declared.OhmRow.the-variants.{Pf as pf, Qf as qf, Pt as pt, Qt as qt}
 use Rattle.branch.specs.declared.Series.{Series}
 use Rattle.branch.specs.declared.Products.{Products}
-use Rattle.branch.specs.declared.OhmRow.{OhmRow as Row}
-use Rattle.branch.specs.declared.OhmRow.the-variants as Row
-
--- which Ohm row
-abbrev pub rowKind : Row → OhmRow
-rowKind Row.Pf = pf
-rowKind Row.Qf = qf
-rowKind Row.Pt = pt
-rowKind Row.Qt = qt
 
 -- the shunt that stands in the row
 abbrev pub shuntOf : {A : Type 0} → Branch A → OhmRow → A

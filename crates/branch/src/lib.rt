@@ -10,14 +10,6 @@ pub struct Series {
     pub tm2: f64,
 }
 
-// The Ohm rows of a branch, each with a flow of its own.
-pub enum OhmRow {
-    Pf,
-    Qf,
-    Pt,
-    Qt,
-}
-
 // Coefficients in the four Ohm rows of a branch.
 pub struct Products {
     pub pf: f64,

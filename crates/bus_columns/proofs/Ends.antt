@@ -13,7 +13,9 @@ use Rattle.lists.specs.Entries.{Cell}
 use Rattle.lists.proofs.Each.{each-ext, when-nil}
 use Rattle.lists.proofs.Sums.{each-le}
 use Rattle.records.specs.AcNetwork.{AcNetwork}
-use Rattle.rows.specs.Rows.{OhmRow, pf, qf, pt, qt, endBus}
+use Rattle.rows.specs.Rows.{endBus}
+use Rattle.rows.specs.declared.OhmRow.{OhmRow}
+use Rattle.rows.specs.declared.OhmRow.the-variants.{Pf as pf, Qf as qf, Pt as pt, Qt as qt}
 use Rattle.matrix.specs.Columns.{shuntCells, ohmCell, boundCells, coneFrom, coneTo, ohmAt, conesAt, wCells}
 use Rattle.incidence.specs.Incidence.{endsAt, endsOf}
 use Rattle.bus_columns.specs.Ends.{parityOf, sideEnds, ohmEnd, coneEnd, ohmsOf, coneCells, blocksOf}

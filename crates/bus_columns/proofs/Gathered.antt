@@ -14,7 +14,9 @@ use Rattle.lists.proofs.Compressed.{valsOf, vals-sets, len-vals, pos}
 use Rattle.ring.specs.Ops.{rounded}
 use Rattle.records.specs.AcNetwork.{AcNetwork}
 use Rattle.rows.specs.Branch.{branchAt}
-use Rattle.rows.specs.Rows.{OhmRow, pf, qf, pt, qt, w, ohmValue}
+use Rattle.rows.specs.Rows.{w, ohmValue}
+use Rattle.rows.specs.declared.OhmRow.{OhmRow}
+use Rattle.rows.specs.declared.OhmRow.the-variants.{Pf as pf, Qf as qf, Pt as pt, Qt as qt}
 use Rattle.cells.specs.Filled.{Filled}
 use Rattle.bus_columns.specs.Gathered.{placeOf, fourOf, Gathered}
 

@@ -4,7 +4,7 @@ use mathlib.Core.List.{List, _++_}
 use lib.Ieee.{Float}
 use Rattle.lists.specs.Entries.{Cell}
 use Rattle.records.specs.AcNetwork.{AcNetwork}
-use Rattle.rows.specs.Rows.{pf, qf, pt, qt}
+use Rattle.rows.specs.declared.OhmRow.the-variants.{Pf as pf, Qf as qf, Pt as pt, Qt as qt}
 use Rattle.matrix.specs.Columns.{shuntCells, ohmCell, boundCells, coneFrom, coneTo}
 
 module _ (G : AcNetwork Float) where

@@ -9,7 +9,9 @@ use Rattle.lists.specs.UpTo.{each, when}
 use Rattle.lists.specs.Entries.{Cell}
 use Rattle.records.specs.AcNetwork.{AcNetwork}
 use Rattle.numbering.specs.declared.RowName.the-variants.{Jabr}
-use Rattle.rows.specs.Rows.{OhmRow, pf, qf, pt, qt, half, minusHalf, constant64}
+use Rattle.rows.specs.Rows.{half, minusHalf, constant64}
+use Rattle.rows.specs.declared.OhmRow.{OhmRow}
+use Rattle.rows.specs.declared.OhmRow.the-variants.{Pf as pf, Qf as qf, Pt as pt, Qt as qt}
 use Rattle.matrix.specs.Columns.{at, ohmCell}
 
 -- the side of an Ohm row: 0 at the from end, 1 at the to end

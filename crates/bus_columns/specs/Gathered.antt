@@ -9,7 +9,9 @@ use Rattle.lists.specs.UpTo.{each}
 use Rattle.ring.specs.Ops.{rounded}
 use Rattle.records.specs.AcNetwork.{AcNetwork}
 use Rattle.rows.specs.Branch.{branchAt}
-use Rattle.rows.specs.Rows.{OhmRow, pf, qf, pt, qt, w, ohmValue}
+use Rattle.rows.specs.Rows.{w, ohmValue}
+use Rattle.rows.specs.declared.OhmRow.{OhmRow}
+use Rattle.rows.specs.declared.OhmRow.the-variants.{Pf as pf, Qf as qf, Pt as pt, Qt as qt}
 
 -- the place of an Ohm row among a branch's four
 abbrev pub placeOf : OhmRow → ℕ

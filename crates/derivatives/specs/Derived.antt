@@ -7,7 +7,8 @@ use Rattle.ring.specs.Laws.{CommutativeRing}
 use Rattle.records.specs.AcNetwork.{AcNetwork}
 use Rattle.numbering.specs.declared.ColumnName.{ColumnName}
 use Rattle.numbering.specs.declared.RowName.{RowName}
-use Rattle.rows.specs.Rows.{OhmRow, ohmRow, cells}
+use Rattle.rows.specs.Rows.{ohmRow, cells}
+use Rattle.rows.specs.declared.OhmRow.{OhmRow}
 use Rattle.rows.specs.Scaled.{row}
 use Rattle.interface.specs.declared.GB.{GB}
 use Rattle.admittance.specs.Admittance.{shuntRow}

@@ -8,7 +8,9 @@ use Rattle.rows.specs.Branch.{branchAt}
 use Rattle.numbering.specs.declared.ColumnName.{ColumnName}
 use Rattle.numbering.specs.declared.ColumnName.the-variants.{W}
 use Rattle.ring.specs.Ops.{Ops}
-use Rattle.rows.specs.Rows.{constant, OhmRow, pf, qf, pt, qt, ohmColumn}
+use Rattle.rows.specs.Rows.{constant, ohmColumn}
+use Rattle.rows.specs.declared.OhmRow.{OhmRow}
+use Rattle.rows.specs.declared.OhmRow.the-variants.{Pf as pf, Qf as qf, Pt as pt, Qt as qt}
 use Rattle.rows.specs.Scaled.{scaled}
 use Rattle.interface.specs.declared.GB.{GB}
 use Rattle.admittance.specs.Series.{Slope, series}

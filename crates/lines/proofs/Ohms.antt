@@ -18,7 +18,9 @@ use Rattle.numbering.specs.declared.ColumnName.the-variants.{W, Wr, Wi, Pf, Pt,
 use Rattle.numbering.specs.declared.RowName.the-variants.{OhmPf, OhmQf, OhmPt, OhmQt}
 use Rattle.numbering.proofs.Numbers.{row-below}
 use Rattle.numbering.proofs.Laid.{laid-column}
-use Rattle.rows.specs.Rows.{terms, term, kept, zero64, constant64, one, OhmRow, pf, qf, pt, qt, w, wr, wi, ohmValue, ohmRow, flowColumn, endBus}
+use Rattle.rows.specs.Rows.{terms, term, kept, zero64, constant64, one, w, wr, wi, ohmValue, ohmRow, flowColumn, endBus}
+use Rattle.rows.specs.declared.OhmRow.{OhmRow}
+use Rattle.rows.specs.declared.OhmRow.the-variants.{Pf as pf, Qf as qf, Pt as pt, Qt as qt}
 use Rattle.rows.specs.Program.{inRow, nonzero}
 use Rattle.lines.specs.Ohm.{ohmOf, ohmEntries, OhmStands}
 

@@ -5,7 +5,9 @@ use mathlib.Core.List.{List, [], _∷_}
 use Rattle.ring.specs.Ops.{Ops}
 use Rattle.ring.specs.Laws.{CommutativeRing}
 use Rattle.ring.proofs.Ring.{E, var, formal, ring}
-use Rattle.rows.specs.Rows.{OhmRow, pf, qf, pt, qt, OhmPlace, w, wr, wi, flow, ohm, ohmRow, flowColumn}
+use Rattle.rows.specs.Rows.{OhmPlace, w, wr, wi, flow, ohm, ohmRow, flowColumn}
+use Rattle.rows.specs.declared.OhmRow.{OhmRow}
+use Rattle.rows.specs.declared.OhmRow.the-variants.{Pf as pf, Qf as qf, Pt as pt, Qt as qt}
 use Rattle.rows.specs.Scaled.{scaled}
 use Rattle.records.specs.AcNetwork.{BranchData, AcNetwork}
 use Rattle.rows.specs.Branch.{gathered}

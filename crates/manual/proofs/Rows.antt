@@ -12,7 +12,8 @@ use Rattle.ring.specs.Ops.{whole}
 use Rattle.ring.proofs.Laws.{whole-ring, equal-less, less-equal}
 use Rattle.ring.proofs.Ring.{E, var, zeroᴱ, twoᴱ, plus, minus, times, opposite, formal, ring}
 use Rattle.ring.proofs.Order.{twice, by-twice, by-fourfold}
-use Rattle.rows.specs.Rows.{plain, constant, one, minusOne, Cell, cell, OhmRow, ohmRow}
+use Rattle.rows.specs.Rows.{plain, constant, one, minusOne, Cell, cell, ohmRow}
+use Rattle.rows.specs.declared.OhmRow.{OhmRow}
 use Rattle.records.specs.AcNetwork.{AcNetwork}
 use Rattle.numbering.specs.Numbering.{columnKey}
 use Rattle.numbering.specs.declared.ColumnName.{ColumnName}

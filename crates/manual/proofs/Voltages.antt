@@ -9,7 +9,9 @@ use Rattle.ring.specs.Laws.{CommutativeRing, Cancels}
 use Rattle.ring.proofs.Laws.{equal-less, mul-zero}
 use Rattle.ring.proofs.Ring.{E, var, twoᴱ, plus, minus, times, formal, ring}
 use Rattle.records.specs.AcNetwork.{AcNetwork}
-use Rattle.rows.specs.Rows.{OhmRow, pf, qf, pt, qt, ohmRow, flowColumn}
+use Rattle.rows.specs.Rows.{ohmRow, flowColumn}
+use Rattle.rows.specs.declared.OhmRow.{OhmRow}
+use Rattle.rows.specs.declared.OhmRow.the-variants.{Pf as pf, Qf as qf, Pt as pt, Qt as qt}
 use Rattle.numbering.specs.declared.ColumnName.{ColumnName}
 use Rattle.numbering.specs.declared.RowName.the-variants.{Pbal, Qbal, Jabr}
 use Rattle.manual.specs.Matpower.{Complex, Line, YbrEntry, ff, ft, tf, tt′, real, conj, square, scale, multiple, ybr, sf, st}

@@ -19,7 +19,8 @@ use Rattle.numbering.specs.Numbering.{ncon, rowAt, coneLengths}
 use Rattle.numbering.specs.declared.ColumnName.{ColumnName}
 use Rattle.numbering.specs.declared.ColumnName.the-variants.{Pg, Qg, W, Wr, Wi, Pf, Pt, Qf, Qt, CostOf}
 use Rattle.numbering.specs.declared.RowName.the-variants.{Pbal, Qbal, Jabr}
-use Rattle.rows.specs.Rows.{Coefficient, OhmRow, ohmRow}
+use Rattle.rows.specs.Rows.{Coefficient, ohmRow}
+use Rattle.rows.specs.declared.OhmRow.{OhmRow}
 use Rattle.rows.specs.Scaled.{fractionOf, scaled, Quotient}
 use Rattle.manual.specs.Matpower.{Complex, Line, YbrEntry, _⊗_, conj, real, square, scale, left, right, ybr}
 use Rattle.manual.specs.Slack.{slack}

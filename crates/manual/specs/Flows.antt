@@ -1,7 +1,8 @@
 -- The flows of a branch: what the manual says of them, and what the columns of the four Ohm rows hold. On any operations.
 use Prim.Native.Nat.{ℕ}
 use Rattle.ring.specs.Ops.{Ops}
-use Rattle.rows.specs.Rows.{OhmRow, pf, qf, pt, qt}
+use Rattle.rows.specs.declared.OhmRow.{OhmRow}
+use Rattle.rows.specs.declared.OhmRow.the-variants.{Pf as pf, Qf as qf, Pt as pt, Qt as qt}
 use Rattle.records.specs.AcNetwork.{BranchData, AcNetwork}
 use Rattle.manual.specs.Matpower.{Complex, complex, Line, τ², scale, multiple, sf, st, sfW, stW, conj, _⊗_, square}
 use Rattle.numbering.specs.declared.ColumnName.{ColumnName}

@@ -19,7 +19,9 @@ use Rattle.numbering.specs.declared.ColumnName.the-variants.{Pg, Qg, W, Wr, Wi,
 use Rattle.numbering.specs.declared.RowName.{RowName}
 use Rattle.numbering.specs.declared.RowName.the-variants.{Pbal, Qbal, OhmPf, OhmQf, OhmPt, OhmQt, Wub, Wlb, Pgub, Pglb, Qgub, Qglb, Angub, Anglb, Segment, Jabr, Thermal}
 use Rattle.numbering.proofs.Numbers.{HasColumn}
-use Rattle.rows.specs.Rows.{Constant, one, minusOne, half, minusHalf, constant64, zero64, Term, term, kept, OhmRow, pf, qf, pt, qt, w, wr, wi, ohmValue, flowColumn, endBus, ohmRow}
+use Rattle.rows.specs.Rows.{Constant, one, minusOne, half, minusHalf, constant64, zero64, Term, term, kept, w, wr, wi, ohmValue, flowColumn, endBus, ohmRow}
+use Rattle.rows.specs.declared.OhmRow.{OhmRow}
+use Rattle.rows.specs.declared.OhmRow.the-variants.{Pf as pf, Qf as qf, Pt as pt, Qt as qt}
 use Rattle.rows.specs.Program.{everyRow}
 use Rattle.rows.proofs.Shape.{hitTerms, endTerms}
 use Rattle.matrix.specs.Columns.{oneCell, nonzeroCell, at, keep, slopeCell, pgCells, qgCells, shuntCells, ohmCell, boundCells, coneFrom, coneTo, ohmAt, conesAt, wCells, ohmColumnCells, wrCells, wiCells, flowCells, costCell, costCells, columnCells}

@@ -22,7 +22,9 @@ use Rattle.numbering.specs.declared.RowName.the-variants.{Pbal, Qbal, OhmPf, Oh
 use Rattle.numbering.proofs.Numbers.{HasColumn, HasRow}
 use Rattle.numbering.proofs.Names.{column-of}
 use Rattle.numbering.proofs.EveryPoint.{column-alone, every-column}
-use Rattle.rows.specs.Rows.{Constant, constant64, zero64, Term, term, kept, terms, OhmRow, pf, qf, pt, qt, endBus, flowColumn}
+use Rattle.rows.specs.Rows.{Constant, constant64, zero64, Term, term, kept, terms, endBus, flowColumn}
+use Rattle.rows.specs.declared.OhmRow.{OhmRow}
+use Rattle.rows.specs.declared.OhmRow.the-variants.{Pf as pf, Qf as qf, Pt as pt, Qt as qt}
 use Rattle.rows.specs.Program.{everyRow, inRow, program, matrix}
 use Rattle.rows.proofs.Shape.{hitTerms, endTerms}
 use Rattle.matrix.specs.Lists.{everyColumn}

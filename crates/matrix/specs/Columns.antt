@@ -13,7 +13,9 @@ use Rattle.numbering.specs.declared.ColumnName.{ColumnName}
 use Rattle.numbering.specs.declared.ColumnName.the-variants.{Pg, Qg, W, Wr, Wi, Pf, Pt, Qf, Qt, CostOf}
 use Rattle.numbering.specs.declared.RowName.{RowName}
 use Rattle.numbering.specs.declared.RowName.the-variants.{Pbal, Qbal, Wub, Wlb, Pgub, Pglb, Qgub, Qglb, Angub, Anglb, Segment, Jabr, Thermal}
-use Rattle.rows.specs.Rows.{one, minusOne, half, minusHalf, constant64, zero64, OhmRow, pf, qf, pt, qt, OhmPlace, w, wr, wi, ohmValue, ohmRow, endBus}
+use Rattle.rows.specs.Rows.{one, minusOne, half, minusHalf, constant64, zero64, OhmPlace, w, wr, wi, ohmValue, ohmRow, endBus}
+use Rattle.rows.specs.declared.OhmRow.{OhmRow}
+use Rattle.rows.specs.declared.OhmRow.the-variants.{Pf as pf, Qf as qf, Pt as pt, Qt as qt}
 
 -- the balance row that an Ohm row's flow leaves by, and its place among a limited branch's rows
 abbrev pub balanceRow : OhmRow → ℕ → RowName

@@ -10,6 +10,8 @@ use Rattle.lists.specs.UpTo.{each, when}
 use Rattle.ring.specs.Ops.{Ops, rounded}
 use Rattle.records.specs.AcNetwork.{AcNetwork}
 use Rattle.rows.specs.Branch.{Branch, branchAt}
+use Rattle.rows.specs.declared.OhmRow.{OhmRow}
+use Rattle.rows.specs.declared.OhmRow.the-variants.{Pf as pf, Qf as qf, Pt as pt, Qt as qt}
 use Rattle.numbering.specs.declared.ColumnName.{ColumnName}
 use Rattle.numbering.specs.declared.ColumnName.the-variants.{Pg, Qg, W, Wr, Wi, Pf, Pt, Qf, Qt, CostOf}
 use Rattle.numbering.specs.declared.RowName.{RowName}
@@ -42,10 +44,7 @@ pub record Cell (A : Type 0) : Type 0 where
 abbrev pub cell : {A : Type 0} → ColumnName → Coefficient A → Cell A
 cell c v = record { column = c; value = v }
 
--- ---- the four Ohm rows of a branch
-pub data OhmRow : Type 0 where
-  pf qf pt qt : OhmRow
-
+-- ---- the places in the four Ohm rows of a branch
 -- w is of the from bus in pf and qf, of the to bus in pt and qt; flow is the row's own pf, qf, pt or qt
 pub data OhmPlace : Type 0 where
   w wr wi flow : OhmPlace

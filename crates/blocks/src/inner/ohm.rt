@@ -1,17 +1,16 @@
 // The Ohm rows.
-use branch::OhmRow;
 use lines::Ohm;
 use lines::inner::ohm::ohm_line;
 use lists::inner::put;
 use lists::inner::put_if;
 use numbering::SocWrLayout;
+use rows::OhmRow;
 ghost use Prim.Native.Nat.{_+_, _<_, _^_};
 ghost use lib.ListN.{length};
 ghost use Rattle.lists.specs.Out.{out, Wrote};
 ghost use Rattle.lists.specs.UpTo.{each};
 ghost use Rattle.kkt.specs.Kkt.{plainRow};
 ghost use Rattle.rows.specs.Rows.{ohmRow};
-ghost use Rattle.branch.specs.Ohm.{rowKind};
 ghost use Rattle.lines.specs.Ohm.{ohmEntries};
 ghost use Rattle.numbering.specs.Laid.{netOf, Laid};
 
@@ -40,8 +39,8 @@ fn ohm_row(
 ) -> usize
     requires { ⌜ Laid l (now bytes) ⌝ }
     requires { ⌜ e < l .m ⌝ }
-    requires { ⌜ at + length (plainRow (netOf l (now bytes)) (ohmRow (rowKind q) e)) < 2 ^ 64 ⌝ }
-    ensures { λ next. ⌜ Wrote (plainRow (netOf l (now (bytes .entry))) (ohmRow (rowKind q) e)) (out (now (rows .entry)) (now (cols .entry)) (now (vals .entry)) at) (out (now (rows .exit)) (now (cols .exit)) (now (vals .exit)) next) ⌝ }
+    requires { ⌜ at + length (plainRow (netOf l (now bytes)) (ohmRow q e)) < 2 ^ 64 ⌝ }
+    ensures { λ next. ⌜ Wrote (plainRow (netOf l (now (bytes .entry))) (ohmRow q e)) (out (now (rows .entry)) (now (cols .entry)) (now (vals .entry)) at) (out (now (rows .exit)) (now (cols .exit)) (now (vals .exit)) next) ⌝ }
 {
     let o = ohm_line(l, bytes, q, e);
     let r = l.column_count() + o.row;
@@ -59,8 +58,8 @@ pub fn ohm_rows(
     q: OhmRow,
 ) -> usize
     requires { ⌜ Laid l (now bytes) ⌝ }
-    requires { ⌜ at + length (each (l .m) (λ e. plainRow (netOf l (now bytes)) (ohmRow (rowKind q) e))) < 2 ^ 64 ⌝ }
-    ensures { λ next. ⌜ Wrote (each (l .m) (λ e. plainRow (netOf l (now (bytes .entry))) (ohmRow (rowKind q) e))) (out (now (rows .entry)) (now (cols .entry)) (now (vals .entry)) at) (out (now (rows .exit)) (now (cols .exit)) (now (vals .exit)) next) ⌝ }
+    requires { ⌜ at + length (each (l .m) (λ e. plainRow (netOf l (now bytes)) (ohmRow q e))) < 2 ^ 64 ⌝ }
+    ensures { λ next. ⌜ Wrote (each (l .m) (λ e. plainRow (netOf l (now (bytes .entry))) (ohmRow q e))) (out (now (rows .entry)) (now (cols .entry)) (now (vals .entry)) at) (out (now (rows .exit)) (now (cols .exit)) (now (vals .exit)) next) ⌝ }
 {
     let mut next = at;
     let mut e = 0;

@@ -1,23 +1,23 @@
 // The coefficients of a branch's Ohm rows.
-use crate::OhmRow;
 use crate::Products;
 use crate::Series;
 use records::inner::b_fr;
 use records::inner::b_to;
 use records::inner::g_fr;
 use records::inner::g_to;
+use rows::OhmRow;
 ghost use mathlib.Core.Path.{_≡_};
 ghost use Prim.Native.Nat.{_+_, _*_, _≤_};
 ghost use lib.ListN.{length};
 ghost use Rattle.rows.specs.Branch.{branchOf};
 ghost use Rattle.rows.specs.Rows.{zero64, ohmValue, w, wr, wi};
 ghost use Rattle.branch.specs.Series.{seriesOf};
-ghost use Rattle.branch.specs.Ohm.{rowKind, shuntOf, branchWith, productsOf};
+ghost use Rattle.branch.specs.Ohm.{shuntOf, branchWith, productsOf};
 
 // The shunt that stands in an Ohm row of the branch at record r: the conductance or susceptance of the row's end.
 pub fn shunt(q: OhmRow, bytes: &[u8], r: usize) -> f64
     requires { ⌜ 128 * r + 128 ≤ length (now bytes) ⌝ }
-    ensures { λ x. ⌜ x ≡ shuntOf (branchOf (now (bytes .entry)) r) (rowKind q) ⌝ }
+    ensures { λ x. ⌜ x ≡ shuntOf (branchOf (now (bytes .entry)) r) q ⌝ }
 {
     match q {
         OhmRow::Pf => g_fr(bytes, r),
@@ -29,7 +29,7 @@ pub fn shunt(q: OhmRow, bytes: &[u8], r: usize) -> f64
 
 // The coefficient of the row's w, whose end has the shunt.
 pub fn w_value(q: OhmRow, t: Series, shunt: f64) -> f64
-    ensures { λ x. ⌜ x ≡ ohmValue (branchWith t shunt) (rowKind q) w ⌝ }
+    ensures { λ x. ⌜ x ≡ ohmValue (branchWith t shunt) q w ⌝ }
 {
     match q {
         OhmRow::Pf => -(t.g + shunt) / t.tm2,
@@ -43,14 +43,14 @@ pub fn w_value(q: OhmRow, t: Series, shunt: f64) -> f64
 pub fn w_at(q: OhmRow, t: Series, bytes: &[u8], r: usize) -> f64
     requires { ⌜ 128 * r + 128 ≤ length (now bytes) ⌝ }
     requires { ⌜ t ≡ seriesOf (branchOf (now bytes) r) ⌝ }
-    ensures { λ x. ⌜ x ≡ ohmValue (branchOf (now (bytes .entry)) r) (rowKind q) w ⌝ }
+    ensures { λ x. ⌜ x ≡ ohmValue (branchOf (now (bytes .entry)) r) q w ⌝ }
 {
     w_value(q, t, shunt(q, bytes, r))
 }
 
 // Those of wr and wi.
 pub fn wr_value(q: OhmRow, t: Series) -> f64
-    ensures { λ x. ⌜ x ≡ ohmValue (branchWith t zero64) (rowKind q) wr ⌝ }
+    ensures { λ x. ⌜ x ≡ ohmValue (branchWith t zero64) q wr ⌝ }
 {
     match q {
         OhmRow::Pf => -(-t.g * t.tr + t.b * t.ti) / t.tm2,
@@ -61,7 +61,7 @@ pub fn wr_value(q: OhmRow, t: Series) -> f64
 }
 
 pub fn wi_value(q: OhmRow, t: Series) -> f64
-    ensures { λ x. ⌜ x ≡ ohmValue (branchWith t zero64) (rowKind q) wi ⌝ }
+    ensures { λ x. ⌜ x ≡ ohmValue (branchWith t zero64) q wi ⌝ }
 {
     match q {
         OhmRow::Pf => -(-t.b * t.tr - t.g * t.ti) / t.tm2,

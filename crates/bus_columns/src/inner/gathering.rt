@@ -1,8 +1,8 @@
 // The coefficients of the branches' buses in the Ohm rows, gathered in one pass over the branches.
-use branch::OhmRow;
 use branch::inner::ohm::w_at;
 use branch::inner::series;
 use numbering::SocWrLayout;
+use rows::OhmRow;
 ghost use Prim.Native.Nat.{_+_, _*_, _≤_, _<_};
 ghost use lib.ListN.{length};
 ghost use Rattle.lists.specs.UpTo.{each};

@@ -1,6 +1,5 @@
 // The Ohm rows of a branch.
 use crate::Ohm;
-use branch::OhmRow;
 use branch::inner::ohm::w_at;
 use branch::inner::ohm::wi_value;
 use branch::inner::ohm::wr_value;
@@ -9,12 +8,12 @@ use branch::inner::places::flow_column;
 use branch::inner::places::ohm_row;
 use branch::inner::series;
 use numbering::SocWrLayout;
+use rows::OhmRow;
 ghost use mathlib.Core.Path.{_≡_};
 ghost use Prim.Native.Nat.{_<_};
 ghost use Rattle.numbering.specs.Layout.{InRange};
 ghost use Rattle.numbering.specs.Laid.{netOf, Laid};
 ghost use Rattle.rows.specs.Rows.{ohmRow};
-ghost use Rattle.branch.specs.Ohm.{rowKind};
 ghost use Rattle.lines.specs.Ohm.{ohmOf, OhmStands};
 
 fn ohm(
@@ -46,7 +45,7 @@ fn ohm(
 pub fn ohm_line(l: SocWrLayout, bytes: &[u8], q: OhmRow, e: usize) -> Ohm
     requires { ⌜ Laid l (now bytes) ⌝ }
     requires { ⌜ e < l .m ⌝ }
-    ensures { λ r. ⌜ OhmStands (netOf l (now (bytes .entry))) (ohmRow (rowKind q) e) r ⌝ }
+    ensures { λ r. ⌜ OhmStands (netOf l (now (bytes .entry))) (ohmRow q e) r ⌝ }
 {
     let r = l.n + e;
     let t = series(bytes, r);

@@ -1,6 +1,5 @@
 // The branch columns of A.
 use super::generators::put_bounds;
-use branch::OhmRow;
 use branch::Products;
 use branch::inner::conic_angle_bound_active;
 use branch::inner::ohm::wi_products;
@@ -14,6 +13,7 @@ use cells::inner::put_nonzero;
 use lists::inner::bit;
 use lists::inner::store_u32;
 use numbering::SocWrLayout;
+use rows::OhmRow;
 ghost use mathlib.Core.Path.{_≡_};
 ghost use Prim.Native.Nat.{_+_, _*_, _≤_, _<_};
 ghost use Rattle.lists.specs.UpTo.{listed, count};
@@ -23,7 +23,6 @@ ghost use Rattle.numbering.specs.Layout.{layoutColumn};
 ghost use Rattle.numbering.specs.Laid.{netOf, Laid};
 ghost use Rattle.numbering.specs.declared.ColumnName.the-variants.{Wr, Wi};
 ghost use Rattle.matrix.specs.Columns.{wrCells, wiCells, flowCells, balanceRow, thermalPlace};
-ghost use Rattle.branch.specs.Ohm.{rowKind};
 ghost use Rattle.cells.specs.Columns.{Columns};
 ghost use Rattle.record_columns.specs.Writers.{wrAngles, productCells, flow};
 
@@ -177,7 +176,7 @@ pub fn put_wis(
 fn balance_row(q: OhmRow, l: SocWrLayout, bytes: &[u8], i: usize) -> u32
     requires { ⌜ Laid l (now bytes) ⌝ }
     requires { ⌜ i < l .n ⌝ }
-    ensures { λ r. ⌜ r ≡ rowNumber (netOf l (now (bytes .entry))) (balanceRow (rowKind q) i) ⌝ }
+    ensures { λ r. ⌜ r ≡ rowNumber (netOf l (now (bytes .entry))) (balanceRow q i) ⌝ }
 {
     match q {
         OhmRow::Pf => l.pbal_row(i),
@@ -188,7 +187,7 @@ fn balance_row(q: OhmRow, l: SocWrLayout, bytes: &[u8], i: usize) -> u32
 }
 
 fn thermal_place(q: OhmRow) -> usize
-    ensures { λ r. ⌜ r ≡ thermalPlace (rowKind q) ⌝ }
+    ensures { λ r. ⌜ r ≡ thermalPlace q ⌝ }
     ensures { λ r. ⌜ r < 6 ⌝ }
 {
     match q {
@@ -231,7 +230,7 @@ fn put_flow(
     requires { ⌜ Laid l (now bytes) ⌝ }
     requires { ⌜ (e < l .m) × (at < 1000000) ⌝ }
     requires { ⌜ rank ≡ count e (netOf l (now bytes) .limited) ⌝ }
-    ensures { λ x. ⌜ WroteCells (flowCells (netOf l (now (bytes .entry))) (rowKind q) e) (cellOut (now (rows .entry)) (now (vals .entry)) at) (cellOut (now (rows .exit)) (now (vals .exit)) x) ⌝ }
+    ensures { λ x. ⌜ WroteCells (flowCells (netOf l (now (bytes .entry))) q e) (cellOut (now (rows .entry)) (now (vals .entry)) at) (cellOut (now (rows .exit)) (now (vals .exit)) x) ⌝ }
     ensures { λ x. ⌜ x ≤ at + 3 ⌝ }
 {
     let thermal = l.thermal_row(rank, thermal_place(q));
@@ -255,7 +254,7 @@ pub fn put_flows(
 ) -> usize
     requires { ⌜ Laid l (now bytes) ⌝ }
     requires { ⌜ (at < 900000) × (col < 900000) ⌝ }
-    ensures { λ x. ⌜ Columns (listed (l .m) (flowCells (netOf l (now (bytes .entry))) (rowKind q))) col (now (starts .entry)) (cellOut (now (rows .entry)) (now (vals .entry)) at) (now (starts .exit)) (cellOut (now (rows .exit)) (now (vals .exit)) x) ⌝ }
+    ensures { λ x. ⌜ Columns (listed (l .m) (flowCells (netOf l (now (bytes .entry))) q)) col (now (starts .entry)) (cellOut (now (rows .entry)) (now (vals .entry)) at) (now (starts .exit)) (cellOut (now (rows .exit)) (now (vals .exit)) x) ⌝ }
     ensures { λ x. ⌜ x ≤ at + 3 * l .m ⌝ }
 {
     let m = l.m;

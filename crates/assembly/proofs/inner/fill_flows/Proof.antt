@@ -8,7 +8,7 @@ use Rattle.lists.specs.UpTo.{listed}
 use Rattle.numbering.specs.Laid.{netOf}
 use Rattle.numbering.specs.declared.ColumnName.the-variants.{Pf, Pt, Qf, Qt}
 use Rattle.numbering.proofs.Numbers.{layout-column}
-use Rattle.rows.specs.Rows.{pf, qf, pt}
+use Rattle.rows.specs.declared.OhmRow.the-variants.{Pf as pf, Qf as qf, Pt as pt}
 use Rattle.matrix.specs.Columns.{flowCells}
 use Rattle.cells.proofs.Fills.{listed-length}
 use Rattle.cells.proofs.Ends.{columns-then}

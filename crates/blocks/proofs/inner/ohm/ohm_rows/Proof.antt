@@ -7,7 +7,6 @@ use Rattle.lists.proofs.Written.{no-turn, turn, len-rows, len-cols, len-vals}
 use Rattle.complementarity.proofs.Rooms.{room-turn}
 use Rattle.kkt.specs.Kkt.{plainRow}
 use Rattle.rows.specs.Rows.{ohmRow}
-use Rattle.branch.specs.Ohm.{rowKind}
 use borrow.Author.Needs.{needs}
 use native.Mathlib.Omega.{arith}
 use Rattle.blocks.proofs.inner.ohm.ohm_rows.Statement.{statement}
@@ -15,7 +14,7 @@ use Rattle.blocks.proofs.inner.ohm.ohm_rows.Tie as tie
 use Rattle.numbering.specs.Laid.{netOf}
 
 abbrev Inv-loop : tie.InvT-loop
-Inv-loop rows₀ cols₀ vals₀ at l bytes q next₀ e₀ rows cols vals next e = (e ≤ l .m) × Wrote (each e (λ e. plainRow (netOf l bytes) (ohmRow (rowKind q) e))) (out rows₀ cols₀ vals₀ at) (out rows cols vals next)
+Inv-loop rows₀ cols₀ vals₀ at l bytes q next₀ e₀ rows cols vals next e = (e ≤ l .m) × Wrote (each e (λ e. plainRow (netOf l bytes) (ohmRow q e))) (out rows₀ cols₀ vals₀ at) (out rows cols vals next)
 
 abbrev μ-loop : tie.MeasureT-loop
 μ-loop rows₀ cols₀ vals₀ at l bytes q next₀ e₀ rows cols vals next e = l .m - e

@@ -7,7 +7,7 @@ use lib.ListN.{length-append}
 use denote.Ref.{now}
 use Rattle.lists.proofs.Compressed.{then, pos}
 use Rattle.numbering.specs.Laid.{netOf}
-use Rattle.rows.specs.Rows.{pf, qf, pt, qt}
+use Rattle.rows.specs.declared.OhmRow.the-variants.{Pf as pf, Qf as qf, Pt as pt, Qt as qt}
 use Rattle.bus_columns.specs.Ends.{ohmsOf}
 use Rattle.bus_columns.proofs.Ends.{ohms-sided, blocks-length, blocks-paired}
 use Rattle.bus_columns.proofs.Sides.{sides-length}

@@ -11,7 +11,6 @@ use Rattle.lists.specs.Compressed.{cellOut, WroteCells}
 use Rattle.lists.proofs.Each.{each-mono}
 use Rattle.lists.proofs.Compressed.{no-turn, turn, len-rows, len-vals, pos}
 use Rattle.numbering.specs.Laid.{netOf}
-use Rattle.branch.specs.Ohm.{rowKind}
 use Rattle.cells.proofs.Ends.{cells-all}
 use Rattle.bus_columns.specs.Ends.{ohmEnd}
 use Rattle.bus_columns.proofs.Gathered.{still}
@@ -19,7 +18,7 @@ use Rattle.bus_columns.proofs.inner.column.put_ohms.Statement.{statemen
 use Rattle.bus_columns.proofs.inner.column.put_ohms.Tie as tie
 
 abbrev Inv-loop : tie.InvT-loop
-Inv-loop rows₀ vals₀ at gathered ends l bytes q next₀ j₀ rows vals next j = (j ≤ length ends) × (next ≤ at + j) × WroteCells (each j (λ t. ohmEnd (netOf l bytes) (rowKind q) (getD ends t 0))) (cellOut rows₀ vals₀ at) (cellOut rows vals next)
+Inv-loop rows₀ vals₀ at gathered ends l bytes q next₀ j₀ rows vals next j = (j ≤ length ends) × (next ≤ at + j) × WroteCells (each j (λ t. ohmEnd (netOf l bytes) q (getD ends t 0))) (cellOut rows₀ vals₀ at) (cellOut rows vals next)
 
 abbrev μ-loop : tie.MeasureT-loop
 μ-loop rows₀ vals₀ at gathered ends l bytes q next₀ j₀ rows vals next j = length ends - j
@@ -31,7 +30,7 @@ put-ohm-requires : tie.Need-put-ohm-requires Inv-loop μ-loop
 put-ohm-requires c κs =
     let a = c .before .before .before .before .before .before .before .before .before .args in
     let G = netOf (a .l) (now (a .bytes)) in
-    let f : ℕ → List Cell = λ t. ohmEnd G (rowKind (a .q)) (getD (now (a .ends)) t 0) in
+    let f : ℕ → List Cell = λ t. ohmEnd G (a .q) (getD (now (a .ends)) t 0) in
     (c .before .before .before .before .before .before .before .before .before .pre .0, (omega (arith, c .before .before .before .before .loop .inv .1, c .before .before .before .before .before .before .before .before .before .pre .1 .0, c .before .before .before .before .before .before .before .before .before .pre .0 .accepted .few-branches), still G (c .before .before .before .before .loop .inv .2) (omega (arith, pos (c .before .before .before .before .loop .inv .2), each-mono f (c .before .before .before .before .loop .j) (length (now (a .ends))) (c .before .before .before .before .loop .inv .0), c .before .before .before .before .before .before .before .before .before .pre .1 .1 .1)) (c .before .before .before .before .before .before .before .before .before .pre .1 .1 .0)))
 
 loop-again : tie.Need-loop-again Inv-loop μ-loop

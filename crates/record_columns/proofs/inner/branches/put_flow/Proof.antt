@@ -8,7 +8,6 @@ use Rattle.numbering.specs.Laid.{netOf}
 use Rattle.numbering.specs.declared.RowName.the-variants.{Thermal}
 use Rattle.numbering.proofs.Laid.{laid-thermal}
 use Rattle.matrix.specs.Columns.{flowCells, thermalPlace, balanceRow}
-use Rattle.branch.specs.Ohm.{rowKind}
 use Rattle.record_columns.specs.Writers.{flow}
 use Rattle.record_columns.proofs.Written.{limited-below}
 use borrow.Author.Needs.{needs}
@@ -30,7 +29,7 @@ returns c =
     let b = now (a .bytes) in
     let h = s .pre in
     let G = netOf (a .l) b in
-    let k = rowKind (a .q) in
+    let k = (a .q) in
     let w = c .before .before .before .before .put-flow-cells .ensures in
     let t : c .before .before .before .before .before .before .before .before .before .before .before .before .thermal-row .result ≡ rowNumber G (Thermal (a .e) (thermalPlace k)) =
     rw (h .1 .1, c .before .before .before .before .before .before .before .before .before .before .before .before .before .thermal-place .ensures .0) at (c .before .before .before .before .before .before .before .before .before .before .before .before .thermal-row .ensures) ∙ laid-thermal (a .l) b (h .0) (a .e) (thermalPlace k) in

@@ -9,7 +9,6 @@ use Rattle.lists.specs.Compressed.{cellOut}
 use Rattle.lists.proofs.Compressed.{len-rows, len-vals}
 use Rattle.lists.proofs.Sums.{sum-next, bit-le}
 use Rattle.matrix.specs.Columns.{flowCells}
-use Rattle.branch.specs.Ohm.{rowKind}
 use Rattle.cells.specs.Columns.{Columns}
 use Rattle.cells.proofs.Ends.{columns-none, columns-more, columns-all, columns-starts}
 use Rattle.record_columns.proofs.inner.branches.put_flows.Statement.{statement}
@@ -17,14 +16,14 @@ use Rattle.record_columns.proofs.inner.branches.put_flows.Tie as tie
 use Rattle.numbering.specs.Laid.{netOf}
 
 abbrev Inv-loop : tie.InvT-loop
-Inv-loop starts₀ rows₀ vals₀ col at l bytes q m next₀ rank₀ e₀ starts rows vals next rank e = (e ≤ m) × (m ≡ l .m) × (rank ≡ count e (netOf l bytes .limited)) × (rank ≤ e) × (next ≤ at + 3 * e) × Columns (listed e (flowCells (netOf l bytes) (rowKind q))) col starts₀ (cellOut rows₀ vals₀ at) starts (cellOut rows vals next)
+Inv-loop starts₀ rows₀ vals₀ col at l bytes q m next₀ rank₀ e₀ starts rows vals next rank e = (e ≤ m) × (m ≡ l .m) × (rank ≡ count e (netOf l bytes .limited)) × (rank ≤ e) × (next ≤ at + 3 * e) × Columns (listed e (flowCells (netOf l bytes) q)) col starts₀ (cellOut rows₀ vals₀ at) starts (cellOut rows vals next)
 
 abbrev μ-loop : tie.MeasureT-loop
 μ-loop starts₀ rows₀ vals₀ col at l bytes q m next₀ rank₀ e₀ starts rows vals next rank e = m - e
 
 loop-holds : tie.Need-loop-holds Inv-loop μ-loop
 unfolding upTo
-loop-holds c = (omega arith, refl, refl, omega arith, omega arith, columns-none (flowCells (netOf (c .before .before .before .before .args .l) (now (c .before .before .before .before .args .bytes))) (rowKind (c .before .before .before .before .args .q))))
+loop-holds c = (omega arith, refl, refl, omega arith, omega arith, columns-none (flowCells (netOf (c .before .before .before .before .args .l) (now (c .before .before .before .before .args .bytes))) (c .before .before .before .before .args .q)))
 
 put-flow-requires : tie.Need-put-flow-requires Inv-loop μ-loop
 put-flow-requires c κs =
