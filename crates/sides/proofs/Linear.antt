@@ -97,6 +97,11 @@ module _ (l : SocWrLayout) (bytes : List ℕ) (laid : Laid l bytes) where
       let long = listed-length (λ j. unit) (l .«cost_columns») in
       inl (record { which = 1; from = omega arith; to = omega arith })
 
+  -- as many as the layout says
+  pub linear-length : length (linear G) ≡ nvarOf l
+  unfolding linear
+  linear-length = listed-length _ _ ∙ sym (laid-nvar l bytes laid)
+
   pub linear-runs : (o : List Float) {z o′ : List Float} → nvarOf l ≤ length o → Filled (listed (nvarOf l) (λ j. zero64)) o 0 z → RunsOver costRuns z o′ → o′ ≡ overlay (linear G) o
   unfolding linear
   linear-runs o room f runs =

@@ -232,6 +232,11 @@ module _ (l : SocWrLayout) (bytes : List ℕ) (laid : Laid l bytes) where
       let long = ratings-length l bytes laid in
       record { which = 16; from = omega arith; to = omega arith }
 
+  -- as many as the layout says
+  pub right-length : length (rightSide G) ≡ nconOf l
+  unfolding rightSide
+  right-length = listed-length _ _ ∙ sym (laid-ncon l bytes laid)
+
   -- whatever the order in which the runs are written
   pub right-runs : (o : List Float) {o′ : List Float} → nconOf l ≤ length o → RunsOver sideRuns o o′ → o′ ≡ overlay (rightSide G) o
   unfolding rightSide
