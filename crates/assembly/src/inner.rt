@@ -25,7 +25,7 @@ ghost use Rattle.assembly.specs.Ahead.{Ahead};
 ghost use Rattle.assembly.specs.Parts.{generatorColumns, productColumns, flowColumns, branchColumns, mostA, Roomy};
 ghost use Rattle.numbering.specs.Layout.{layoutColumn, nvarOf};
 ghost use Rattle.numbering.specs.Laid.{netOf, Laid};
-ghost use Rattle.numbering.specs.declared.ColumnName.the-variants.{Pg, W, Wr, Wi, Pf};
+ghost use Rattle.numbering.specs.declared.ColumnName.the-variants.{Pg, W, Wr, Pf};
 
 // The pg and qg columns.
 fn fill_generators(
@@ -45,8 +45,8 @@ fn fill_generators(
     put_qgs(starts, rows, vals, next, l, bytes)
 }
 
-// The w columns. The starts of the wr and wi columns, which are written next, serve meanwhile for the ends of the branches by bus,
-// and the values of the columns behind them for the branches' coefficients.
+// The w columns. The starts of the columns behind them, which are written next, serve meanwhile for the ends of the branches by bus,
+// two for each branch, and the values of those columns for the branches' coefficients.
 fn fill_buses(
     starts: &mut [u32],
     rows: &mut [u32],
@@ -56,14 +56,14 @@ fn fill_buses(
     bytes: &[u8],
 ) -> usize
     requires { ⌜ Laid l (now bytes) ⌝ }
-    requires { ⌜ (at < 900000) × (layoutColumn l (Wi (l .m)) + 1 ≤ length (now starts)) ⌝ }
+    requires { ⌜ (at < 900000) × (layoutColumn l (W (l .n)) + 1 + 2 * l .m ≤ length (now starts)) ⌝ }
     requires { ⌜ at + sum (l .n) (λ i. length (ownCells (netOf l (now bytes)) i)) + 12 * l .m ≤ length (now vals) ⌝ }
     ensures { λ x. ⌜ Ahead (listed (l .n) (wCells (netOf l (now (bytes .entry))))) (layoutColumn l (W 0)) (2 * l .m) (at + sum (l .n) (λ i. length (ownCells (netOf l (now (bytes .entry))) i)) + 12 * l .m) (now (starts .entry)) (cellOut (now (rows .entry)) (now (vals .entry)) at) (now (starts .exit)) (cellOut (now (rows .exit)) (now (vals .exit)) x) ⌝ }
     ensures { λ x. ⌜ x ≤ at + 4 * l .n + 8 * l .m ⌝ }
 {
     let gathered = at + count_buses(l, bytes) + 8 * l.m;
     let first = l.w_column(0) as usize + 1;
-    let end = l.wi_column(l.m) as usize + 1;
+    let end = l.w_column(l.n) as usize + 1 + 2 * l.m;
     put_buses(&mut starts[first..end], rows, vals, at, gathered, l, bytes)
 }
 

@@ -22,6 +22,7 @@ use Rattle.numbering.specs.declared.RowName.{RowName}
 use Rattle.numbering.specs.declared.RowName.the-variants.{Pbal, Qbal, OhmPf, OhmQf, OhmPt, OhmQt, Wub, Wlb, Pgub, Pglb, Qgub, Qglb, Angub, Anglb, Segment, Jabr, Thermal}
 use Rattle.rows.specs.declared.OhmRow.{OhmRow}
 use Rattle.rows.specs.declared.OhmRow.the-variants.{Pf as pf, Qf as qf, Pt as pt, Qt as qt}
+use Rattle.rows.specs.Program.{equalities, inequalities}
 use Rattle.manual.specs.Matpower.{scale}
 use Rattle.manual.specs.Slack.{slack}
 use Rattle.manual.specs.Flows.{lineOf, pointAt, heldFlow, manual}
@@ -77,12 +78,12 @@ module _ (G : AcNetwork ℤ) (x : ColumnName → ℤ) where
   block-holds : (P : ℤ → Type 0) {Q : ℕ → Type 0} (n : ℕ) (r : ℕ → RowName) → ((i : ℕ) → i < n → P (s (r i)) ↔ Q i) → Every P (block n r) ↔ All n Q
   block-holds P n r h = Iff·trans (every-each P n (λ i. s (r i) ∷ [])) (pointwise n (λ i l. Iff·trans (every-one P (s (r i))) (h i l)))
 
-  -- ---- the rows of the zero cone
-  abbrev balances : List ℤ
-  balances = block (G .n) Pbal ++ block (G .n) Qbal
-
+  -- ---- the rows of the zero cone, and of the nonnegative cone: the program's lists of blocks
   abbrev equal : List ℤ
-  equal = balances ++ block (G .m) OhmPf ++ block (G .m) OhmQf ++ block (G .m) OhmPt ++ block (G .m) OhmQt
+  equal = equalities G (λ r. s r ∷ [])
+
+  abbrev bounds : List ℤ
+  bounds = inequalities G (λ r. s r ∷ [])
 
   equal-length : length equal ≡ nEq G
   equal-length = simp (length-append, block-length) (omega arith)
@@ -97,16 +98,7 @@ module _ (G : AcNetwork ℤ) (x : ColumnName → ℤ) where
   abbrev N : ℤ → Type 0
   N v = pos 0 ≤ℤ v
 
-  -- ---- the rows of the nonnegative cone
-  abbrev voltages : List ℤ
-  voltages = block (G .n) Wub ++ block (G .n) Wlb
-
-  abbrev capabilities : List ℤ
-  capabilities = voltages ++ block (G .k) Pgub ++ block (G .k) Pglb ++ block (G .k) Qgub ++ block (G .k) Qglb
-
-  abbrev angles : List ℤ
-  angles = capabilities ++ block (G .m) Angub ++ block (G .m) Anglb
-
+  -- ---- the generators' segments
   abbrev costs : List ℤ
   costs = each (G .k) (λ g. block (G .segments g) (Segment g))
 
@@ -160,18 +152,17 @@ module _ (G : AcNetwork ℤ) (x : ColumnName → ℤ) where
   three-to e = to-law G x e
 
   -- ---- all rows in their order
-  slacks-are : slacks G x ≡ equal ++ (angles ++ costs) ++ (jabrs ++ thermals)
+  slacks-are : slacks G x ≡ equal ++ bounds ++ (jabrs ++ thermals)
   slacks-are = every-row G (λ p. s (rowAt G p) ∷ []) (λ r. s r ∷ []) (λ r h. ap (λ (y : RowName). s y ∷ []) (row-placed G r h))
 
   module _ (add : sum (G .k) (G .segments) ≡ G .s) where
-    bounds-length : length (angles ++ costs) ≡ nIneq G
+    bounds-length : length bounds ≡ nIneq G
     bounds-length = simp (length-append, block-length, costs-length) (omega arith)
 
     -- cone by cone
     by-cones : InProduct (cones G) (slacks G x)
-        ↔ ((Every Z equal × Every N (angles ++ costs)) × (InProduct (replicate (G .m) (secondOrder 4)) jabrs × InProduct (replicate (2 * limits G) (secondOrder 3)) thermals))
+        ↔ ((Every Z equal × Every N bounds) × (InProduct (replicate (G .m) (secondOrder 4)) jabrs × InProduct (replicate (2 * limits G) (secondOrder 3)) thermals))
     by-cones =
-        let bounds : List ℤ = angles ++ costs in
         let size : length (equal ++ bounds) ≡ nEq G + (nIneq G + 0) = omega (arith, length-append equal bounds, equal-length, bounds-length) in
         rw slacks-are
         (Iff·trans
@@ -213,7 +204,7 @@ module _ (G : AcNetwork ℤ) (x : ColumnName → ℤ) where
           and All (G .m) (λ e. G .angled e ≡ true → (G .tanmin e *ℤ x (Wr e)) ≤ℤ x (Wi e))
           and All (G .k) (λ g. All (G .segments g) (λ t. (G .slope g t *ℤ x (Pg g) +ℤ G .intercept g t) ≤ℤ x (CostOf g)))
 
-      bounds-hold : Every N (angles ++ costs) ↔ Bounds
+      bounds-hold : Every N bounds ↔ Bounds
       bounds-hold =
           block-holds N (G .n) Wub (λ i l. wub-law G x i)
           then block-holds N (G .n) Wlb (λ i l. wlb-law G x i)

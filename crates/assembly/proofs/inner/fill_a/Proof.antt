@@ -5,7 +5,7 @@ use mathlib.Core.List.{append-assoc}
 use mathlib.Core.Logic.{⊎-elim}
 use denote.Ref.{now}
 use Rattle.lists.proofs.Compressed.{joined-listed}
-use Rattle.numbering.specs.declared.ColumnName.the-variants.{Pg, W, Wr, Wi}
+use Rattle.numbering.specs.declared.ColumnName.the-variants.{Pg, W, Wr}
 use Rattle.numbering.proofs.Numbers.{layout-column, layout-nvar}
 use Rattle.matrix.specs.Columns.{wCells}
 use Rattle.cells.proofs.Fills.{listed-length}
@@ -23,7 +23,7 @@ fill-buses-requires c κs =
     let a = c .before .before .before .before .before .before .before .before .before .before .before .before .before .before .before .before .before .before .before .before .before .args in
     let b = now (a .bytes) in
     let p = c .before .before .before .before .before .before .before .before .before .before .before .before .before .before .before .before .before .before .before .before .before .pre in
-    (p .0, ((omega (arith, c .before .before .before .before .before .before .before .before .before .fill-generators .ensures .1, p .0 .range .k-range, p .0 .range .s-range), omega (arith, layout-column (a .l) (Wi (a .l .m)), layout-nvar (a .l), p .1 .0, c .before .before .before .before .before .before .before .before .before .before .before .before .before .before .before .store-u32 .kept .0, c .before .before .before .before .before .before .before .before .before .fill-generators .kept .0)), ⊎-elim (λ h. omega (arith, h, own-most (a .l) b (p .0), c .before .before .before .before .before .before .before .before .before .fill-generators .ensures .1, c .before .before .before .before .before .before .before .before .before .fill-generators .kept .1 .1)) (λ h. omega (arith, h, matrix-count (a .l) b (p .0), ahead-covered (a .l) b (p .0), columns-pos (c .before .before .before .before .before .before .before .before .before .fill-generators .ensures .0), c .before .before .before .before .before .before .before .before .before .fill-generators .kept .1 .1)) (p .1 .1)))
+    (p .0, ((omega (arith, c .before .before .before .before .before .before .before .before .before .fill-generators .ensures .1, p .0 .range .k-range, p .0 .range .s-range), omega (arith, layout-column (a .l) (W (a .l .n)), layout-nvar (a .l), p .1 .0, c .before .before .before .before .before .before .before .before .before .before .before .before .before .before .before .store-u32 .kept .0, c .before .before .before .before .before .before .before .before .before .fill-generators .kept .0)), ⊎-elim (λ h. omega (arith, h, own-most (a .l) b (p .0), c .before .before .before .before .before .before .before .before .before .fill-generators .ensures .1, c .before .before .before .before .before .before .before .before .before .fill-generators .kept .1 .1)) (λ h. omega (arith, h, matrix-count (a .l) b (p .0), ahead-covered (a .l) b (p .0), columns-pos (c .before .before .before .before .before .before .before .before .before .fill-generators .ensures .0), c .before .before .before .before .before .before .before .before .before .fill-generators .kept .1 .1)) (p .1 .1)))
 
 fill-branches-requires : tie.Need-fill-branches-requires
 fill-branches-requires c κs =
