@@ -8,6 +8,7 @@ use records::inner::pmax;
 use records::inner::pmin;
 use records::inner::qmax;
 use records::inner::qmin;
+use records::inner::rate_a;
 use records::inner::vm_max;
 use records::inner::vm_min;
 use records::inner::voltage_bound_active;
@@ -16,8 +17,9 @@ ghost use Prim.Native.Nat.{_+_, _*_, _≤_, _<_};
 ghost use lib.ListN.{length};
 ghost use lib.Ieee.{neg};
 ghost use Rattle.records.specs.Fields.{interceptOf};
-ghost use Rattle.numbering.specs.declared.RowName.the-variants.{Wub, Wlb, Pgub, Pglb, Qgub, Qglb, Angub, Anglb};
+ghost use Rattle.numbering.specs.declared.RowName.the-variants.{Wub, Wlb, Pgub, Pglb, Qgub, Qglb, Angub, Anglb, Thermal};
 ghost use Rattle.numbering.specs.Laid.{netOf, Laid};
+ghost use Rattle.rows.specs.Rows.{b};
 ghost use Rattle.bounds.specs.Side.{sideOf, Sided};
 
 // The value where a bound is active, else 1.
@@ -112,4 +114,14 @@ pub fn segment_side(bytes: &[u8], r: usize) -> f64
     ensures { λ x. ⌜ x ≡ neg (interceptOf (now (bytes .entry)) r) ⌝ }
 {
     -intercept(bytes, r)
+}
+
+// The right side of the first row of each of branch e's two thermal cones; the rows behind it have 0.
+pub fn rating(l: SocWrLayout, bytes: &[u8], e: usize) -> f64
+    requires { ⌜ Laid l (now bytes) ⌝ }
+    requires { ⌜ e < l .m ⌝ }
+    ensures { λ x. ⌜ x ≡ b (netOf l (now (bytes .entry))) (Thermal e 0) ⌝ }
+    ensures { λ x. ⌜ x ≡ b (netOf l (now (bytes .entry))) (Thermal e 3) ⌝ }
+{
+    rate_a(bytes, l.n + e)
 }

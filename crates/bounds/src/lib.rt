@@ -1,4 +1,4 @@
-// The rows that bound a voltage, a dispatch or an angle, and the segments of costs: their right sides.
+// The rows that bound a voltage, a dispatch, an angle or a flow, and the segments of costs: their right sides.
 pub mod inner;
 
 // Whether the row's bound is active, and the row's right side.

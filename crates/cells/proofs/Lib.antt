@@ -1,3 +1,4 @@
 pub mod Fills
 pub mod Ends
 pub mod Sizes
+pub mod Runs

@@ -3,11 +3,13 @@ use lists::inner::store_f64;
 use lists::inner::store_u32;
 ghost use mathlib.Core.Path.{_≡_};
 ghost use Prim.Native.Nat.{_+_, _≤_, _<_, _^_};
+ghost use lib.ListN.{length};
 ghost use lib.Ieee.{ne};
-ghost use Rattle.lists.specs.UpTo.{when, bit};
+ghost use Rattle.lists.specs.UpTo.{listed, when, bit};
 ghost use Rattle.rows.specs.Rows.{zero64};
 ghost use Rattle.lists.specs.Compressed.{cellOut, WroteCells};
 ghost use Rattle.matrix.specs.Columns.{oneCell, nonzeroCell};
+ghost use Rattle.cells.specs.Filled.{Filled};
 
 pub fn put(rows: &mut [u32], vals: &mut [f64], at: usize, r: u32, v: f64) -> usize
     requires { ⌜ at + 1 < 2 ^ 64 ⌝ }
@@ -49,4 +51,16 @@ pub fn bit_nonzero(v: f64) -> usize
         return 1;
     }
     0
+}
+
+// The same float count times, from a place on.
+pub fn fill_all(out: &mut [f64], at: usize, count: usize, v: f64)
+    requires { ⌜ at + count ≤ length (now out) ⌝ }
+    ensures { λ _. ⌜ Filled (listed count (λ j. v)) (now (out .entry)) at (now (out .exit)) ⌝ }
+{
+    let mut i = 0;
+    while i < count {
+        out[at + i] = v;
+        i += 1;
+    }
 }

@@ -18,7 +18,7 @@ use Rattle.interface.specs.declared.Power.{Power}
 use Rattle.interface.specs.declared.Power.the-variants.{Active, Reactive}
 use Rattle.interface.specs.declared.Bound.{Bound}
 use Rattle.interface.specs.declared.Bound.the-variants.{Min, Max}
-use Rattle.columns.specs.Jacobian.{voltageRow, genRow}
+use Rattle.plain_columns.specs.Cases.{voltageRow, genRow}
 
 module _ (l : SocWrLayout) (b : List ℕ) (h : Laid l b) where
   pub voltage-number : (bound : Bound) (i : ℕ) → layoutRow l (voltageRow bound i) ≡ rowNumber (netOf l b) (voltageRow bound i)

@@ -22,7 +22,8 @@ use Rattle.elements.proofs.Balance.{balance-number}
 use Rattle.admittance.specs.Stores.{put}
 use Rattle.admittance.specs.Places.{kktIn}
 use Rattle.admittance.proofs.Numbers.{kkt-number}
-use Rattle.columns.specs.Jacobian.{voltageRow, genRow, dbdp, costSlope, stores}
+use Rattle.plain_columns.specs.Cases.{voltageRow, genRow, dbdp, costSlope}
+use Rattle.columns.specs.Jacobian.{stores}
 use Rattle.columns.proofs.Numbers.{voltage-number, gen-number}
 
 module _ (l : SocWrLayout) (b : List ℕ) (h : Laid l b) (x z : List Float) where

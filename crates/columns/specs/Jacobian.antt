@@ -15,16 +15,9 @@ use Rattle.records.specs.Check.{checkOf}
 use Rattle.numbering.specs.Numbering.{nvar, ncon, columnNumber, rowNumber}
 use Rattle.numbering.specs.declared.ColumnName.the-variants.{Pg}
 use Rattle.numbering.specs.declared.RowName.{RowName}
-use Rattle.numbering.specs.declared.RowName.the-variants.{Wub, Wlb, Pgub, Pglb, Qgub, Qglb, Thermal}
-use Rattle.ring.specs.Ops.{rounded}
-use Rattle.rows.specs.Rows.{one, minusOne, constant64, zero64}
+use Rattle.numbering.specs.declared.RowName.the-variants.{Thermal}
+use Rattle.rows.specs.Rows.{minusOne, constant64, zero64}
 use Rattle.kkt.specs.Kkt.{kktRow}
-use Rattle.interface.specs.declared.Power.{Power}
-use Rattle.interface.specs.declared.Power.the-variants.{Active, Reactive}
-use Rattle.interface.specs.declared.CostTerm.{CostTerm}
-use Rattle.interface.specs.declared.CostTerm.the-variants.{Quadratic, Linear}
-use Rattle.interface.specs.declared.Bound.{Bound}
-use Rattle.interface.specs.declared.Bound.the-variants.{Min, Max}
 use Rattle.interface.specs.declared.Parameter.{Parameter}
 use Rattle.interface.specs.declared.Parameter.the-variants.{Demand, Cost, LineLimit, SeriesAdmittance, ShuntAdmittance, VoltageBound, GenBound, Transformer, Switching, ConstraintLimit}
 use Rattle.solution.specs.Lengths.{solutionCause}
@@ -32,27 +25,7 @@ use Rattle.elements.specs.Lengths.{hasParameter, parameterLen, asksCost}
 use Rattle.elements.specs.Balance.{priceRow}
 use Rattle.admittance.specs.Stores.{Store, put, storedAll}
 use Rattle.admittance.specs.Admittance.{xAt, zAt, shuntStores, seriesStores}
-
--- ---- the cases of the Rust's matches
-abbrev pub voltageRow : Bound → ℕ → RowName
-voltageRow Max i = Wub i
-voltageRow Min i = Wlb i
-
-abbrev pub genRow : Power → Bound → ℕ → RowName
-genRow Active Max g = Pgub g
-genRow Active Min g = Pglb g
-genRow Reactive Max g = Qgub g
-genRow Reactive Min g = Qglb g
-
--- +1 for an upper bound, -1 for a lower one
-abbrev pub dbdp : Bound → Float
-dbdp Max = constant64 one
-dbdp Min = constant64 minusOne
-
--- by cq: 2 pg; by cl: 1
-abbrev pub costSlope : CostTerm → Float → Float
-costSlope Quadratic pg = mul binary64 (rounded .two) pg
-costSlope Linear pg = constant64 one
+use Rattle.plain_columns.specs.Cases.{voltageRow, genRow, dbdp, costSlope}
 
 module _ (G : AcNetwork Float) where
   -- the length of a column

@@ -1,4 +1,3 @@
 // The workers, on the layout of accepted records.
 pub mod column;
 pub mod limit;
-pub mod plain;

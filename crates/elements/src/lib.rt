@@ -8,7 +8,7 @@ use inner::lengths::parameter_count;
 use interface::Axis;
 use interface::Operand;
 use interface::Parameter;
-use records::check_records;
+use record_check::check_records;
 use refusals::Checked;
 use refusals::Refusal;
 use refusals::Written;

@@ -10,7 +10,7 @@ use Rattle.refusals.specs.declared.Checked.the-variants.{Accepted, Refused}
 use Rattle.numbering.specs.declared.SocWrLayout.{SocWrLayout}
 use Rattle.numbering.specs.Lookups.{layoutAnswer, layoutNumber, layoutValue}
 use Rattle.records.specs.AcNetwork.{AcNetwork}
-use Rattle.records.specs.Counts.{ifAccepted}
+use Rattle.record_check.specs.Counts.{ifAccepted}
 use Rattle.kernel.specs.Answers.{SizesAnswer, NoSizes}
 use Rattle.kernel.specs.declared.numbers.Sizes.{Sizes}
 

@@ -6,7 +6,7 @@ use Rattle.refusals.specs.Refusals.{checkedNumber, checkedValue, writtenNumber,
 use Rattle.refusals.specs.declared.Checked.{Checked}
 use Rattle.refusals.specs.declared.Written.{Written}
 use Rattle.records.specs.AcNetwork.{AcNetwork}
-use Rattle.records.specs.Counts.{ifAccepted}
+use Rattle.record_check.specs.Counts.{ifAccepted}
 use Rattle.numbering.specs.Blocks.{key}
 use Rattle.numbering.specs.Numbering.{columnKey, rowKey, limits, curves, nvar, ncon, nEq, nIneq}
 use Rattle.numbering.specs.Lookups.{lookupNumber, lookupValue, layoutNumber, layoutValue}

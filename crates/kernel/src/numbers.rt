@@ -57,7 +57,13 @@ pub struct Name {
 pub extern "C" fn socwr_check_records(n: u64, m: u64, k: u64, s: u64, records: &[u8]) -> Answer
     ensures { λ r. ⌜ CheckedAnswer (checkOf n m k s (now (records .entry))) r ⌝ }
 {
-    checked_answer(records::check_records(n as usize, m as usize, k as usize, s as usize, records))
+    checked_answer(record_check::check_records(
+        n as usize,
+        m as usize,
+        k as usize,
+        s as usize,
+        records,
+    ))
 }
 
 // The sizes of accepted records, from their layout.

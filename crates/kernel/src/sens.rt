@@ -268,7 +268,7 @@ fn no_axis(
     ensures { λ r. ⌜ r ≡ idIf (checkOf n m k s (now (records .entry)) orElse refuseUnless false (PastEnd code)) (ElementId.Constraint index) ⌝ }
 {
     let check = or_else(
-        records::check_records(n, m, k, s, records),
+        record_check::check_records(n, m, k, s, records),
         refuse_unless(false, Refusal::PastEnd(code)),
     );
     elements::id_if(check, ElementId::Constraint(index as u64))

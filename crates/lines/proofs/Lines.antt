@@ -9,9 +9,9 @@ use lib.Ieee.{Float, binary64, neg, ne, mul}
 use borrow.Author.Tests.{lt-ltb, le-ltb}
 use Rattle.lists.specs.UpTo.{when, sum, bit, count}
 use Rattle.lists.specs.Entries.{entry}
-use Rattle.lists.proofs.Sums.{sum-mono, sum-next}
+use Rattle.lists.proofs.Sums.{sum-room}
 use Rattle.records.specs.AcNetwork.{AcNetwork}
-use Rattle.records.specs.Fields.{voltageBoundOf, vmMinOf, vmMaxOf, capabilityOf, pminOf, pmaxOf, qminOf, qmaxOf, angledOf, tanAngminOf, tanAngmaxOf, rateAOf}
+use Rattle.records.specs.Fields.{voltageBoundOf, vmMinOf, vmMaxOf, capabilityOf, pminOf, pmaxOf, qminOf, qmaxOf, angledOf, tanAngminOf, tanAngmaxOf}
 use Rattle.numbering.specs.Numbering.{nvar, ncon, columnNumber, rowNumber}
 use Rattle.numbering.specs.Layout.{layoutColumn, layoutRow}
 use Rattle.numbering.specs.Laid.{netOf, Laid}
@@ -137,19 +137,15 @@ module _ (l : SocWrLayout) (bytes : List ℕ) (h : Laid l bytes) where
       two-terms (Anglb e) (Wr e) (Wi e) _ v minusOne (angledOf bytes (l .n + e)) _ q (laid-row l bytes h (Anglb e) refl) (laid-column l bytes h (Wr e) refl) (laid-column l bytes h (Wi e) refl)
       (λ r f. rw written-when) refl d d d
 
-  -- of the records before k, those of g with what follows are not more than all
-  room : (g k : ℕ) (a : ℕ → ℕ) → g < k → sum g a + a g ≤ sum k a
-  room g k a d = omega (arith, sum-next g a, sum-mono (g + 1) k a (omega arith))
-
   -- the segments, cost columns and limited branches before a record are not more than the layout has
   pub segments-in : (g t segments : ℕ) → g < l .k → t < G .segments g → segments ≡ sum g (G .segments) → segments + t < l .s
   segments-in g t segments d q hs = omega (arith, segments-fit (h .accepted) g d)
 
   pub curves-in : (g curves : ℕ) → g < l .k → curves ≡ count g (G .piecewise) → curves ≤ l .«cost_columns»
-  curves-in g curves d hc = omega (arith, room g (l .k) (λ j. bit (G .piecewise j)) d, curves-are l bytes h)
+  curves-in g curves d hc = omega (arith, sum-room g (l .k) (λ j. bit (G .piecewise j)) d, curves-are l bytes h)
 
   pub limits-in : (e limits : ℕ) → e < l .m → limits ≡ count e (G .limited) → limits ≤ l .t
-  limits-in e limits d hl = omega (arith, room e (l .m) (λ j. bit (G .limited j)) d, limits-are l bytes h)
+  limits-in e limits d hl = omega (arith, sum-room e (l .m) (λ j. bit (G .limited j)) d, limits-are l bytes h)
 
   pub segment-stands : (g t row col : ℕ) → g < l .k → t < G .segments g
       → row ≡ layoutRow l (Segment (sum g (G .segments) + t) 0) → col ≡ layoutColumn l (CostOf (count g (G .piecewise)))
@@ -274,7 +270,7 @@ module _ (l : SocWrLayout) (bytes : List ℕ) (h : Laid l bytes) where
 
   pub from-stands : (e limits : ℕ) → e < l .m → G .limited e ≡ true → limits ≡ count e (G .limited)
       → ConeStands G 3 (thermalFrom e)
-      (thermal (layoutRow l (Thermal limits 0)) (layoutRow l (Thermal limits 1)) (layoutRow l (Thermal limits 2)) (rateAOf bytes (l .n + e)) (layoutColumn l (Pf e)) (layoutColumn l (Qf e)))
+      (thermal (layoutRow l (Thermal limits 0)) (layoutRow l (Thermal limits 1)) (layoutRow l (Thermal limits 2)) (b G (Thermal e 0)) (layoutColumn l (Pf e)) (layoutColumn l (Qf e)))
   unfolding terms b
   from-stands e limits d on hl =
       thermal-cone (thermalFrom e) (Pf e) (Qf e) _ (λ u. layoutRow l (Thermal limits u)) _ _ (λ u. thermal-at e limits u hl) (laid-column l bytes h (Pf e) refl) (laid-column l bytes h (Qf e) refl)
@@ -282,7 +278,7 @@ module _ (l : SocWrLayout) (bytes : List ℕ) (h : Laid l bytes) where
 
   pub to-stands : (e limits : ℕ) → e < l .m → G .limited e ≡ true → limits ≡ count e (G .limited)
       → ConeStands G 3 (thermalTo e)
-      (thermal (layoutRow l (Thermal limits 3)) (layoutRow l (Thermal limits 4)) (layoutRow l (Thermal limits 5)) (rateAOf bytes (l .n + e)) (layoutColumn l (Pt e)) (layoutColumn l (Qt e)))
+      (thermal (layoutRow l (Thermal limits 3)) (layoutRow l (Thermal limits 4)) (layoutRow l (Thermal limits 5)) (b G (Thermal e 3)) (layoutColumn l (Pt e)) (layoutColumn l (Qt e)))
   unfolding terms b
   to-stands e limits d on hl =
       thermal-cone (thermalTo e) (Pt e) (Qt e) _ (λ u. layoutRow l (Thermal limits (3 + u))) _ _ (λ u. thermal-at e limits (3 + u) hl) (laid-column l bytes h (Pt e) refl) (laid-column l bytes h (Qt e) refl)

@@ -11,7 +11,7 @@ use Rattle.numbering.specs.Layout.{layoutOf, layoutColumn, layoutRow, nv
 use Rattle.numbering.specs.Laid.{netOf, Laid}
 use Rattle.numbering.specs.declared.SocWrLayout.{SocWrLayout}
 use Rattle.numbering.specs.declared.ColumnName.{ColumnName}
-use Rattle.numbering.specs.declared.ColumnName.the-variants.{CostOf}
+use Rattle.numbering.specs.declared.ColumnName.the-variants.{Pg, CostOf}
 use Rattle.numbering.specs.declared.RowName.{RowName}
 use Rattle.numbering.specs.declared.RowName.the-variants.{Segment, Thermal}
 use Rattle.numbering.proofs.Layouts.{accepted-range}
@@ -19,6 +19,13 @@ use Rattle.numbering.proofs.Numbers.{column-number, row-number, nvar-nu
 
 pub laid : (n m k s : ℕ) (b : List ℕ) {l : SocWrLayout} → Accepted n m k s b → l ≡ layoutOf (networkOf n m k s b) → Laid l b
 laid n m k s b a e = rw e (record { accepted = a; range = accepted-range n m k s b a; is = refl })
+
+-- the columns of pg follow each other from the first on, and all are among the columns
+pub pg-follows : (l : SocWrLayout) (b : List ℕ) (g : ℕ) → layoutColumn l (Pg 0) + g ≡ columnNumber (netOf l b) (Pg g)
+pg-follows l b g = omega (arith, layout-column l (Pg 0), column-number (netOf l b) (Pg g))
+
+pub pg-fits : (l : SocWrLayout) → layoutColumn l (Pg 0) + l .k ≤ nvarOf l
+pg-fits l = omega (arith, layout-column l (Pg 0), layout-nvar l)
 
 module _ (l : SocWrLayout) (b : List ℕ) (h : Laid l b) where
   pub limits-are : l .t ≡ limits (netOf l b)

@@ -13,7 +13,7 @@ use Rattle.refusals.specs.declared.Refusal.the-variants.{PastEnd}
 use Rattle.records.specs.AcNetwork.{AcNetwork}
 use Rattle.records.specs.Network.{networkOf}
 use Rattle.records.specs.Check.{checkOf}
-use Rattle.records.specs.Counts.{ifAccepted}
+use Rattle.record_check.specs.Counts.{ifAccepted}
 use Rattle.numbering.specs.Blocks.{Block, records, blockAt, numberOf}
 use Rattle.numbering.specs.Numbering.{limits, curves, columnKey, rowKey}
 use Rattle.numbering.specs.Layout.{layoutOf, layoutCause, layoutColumns, layoutRows, nEqOf, nIneqOf}

@@ -56,7 +56,7 @@ fn no_layout(check: Checked) -> LayoutAnswer
 pub fn check_layout(n: usize, m: usize, k: usize, s: usize, bytes: &[u8], e: usize) -> CheckedLayout
     ensures { λ r. ⌜ LaidOut n m k s (now (bytes .entry)) e r ⌝ }
 {
-    let counted = records::check_counting(n, m, k, s, bytes, e);
+    let counted = record_check::check_counting(n, m, k, s, bytes, e);
     let check = counted.check;
     let layout = SocWrLayout {
         n,
@@ -92,7 +92,7 @@ impl SocWrLayout {
         ensures { λ r. ⌜ r ≡ layoutCause self ⌝ }
     {
         or_else(
-            records::count_cause(self.n, self.m, self.k, self.s),
+            record_check::count_cause(self.n, self.m, self.k, self.s),
             or_else(
                 refuse_unless(self.t <= self.m, Refusal::CountTooLarge(4)),
                 refuse_unless(self.cost_columns <= self.k, Refusal::CountTooLarge(5)),

@@ -35,7 +35,7 @@ pub(crate) fn put_q(q: &mut [f64], l: SocWrLayout, bytes: &[u8]) -> Written
     if q.len() < need {
         return Written::Refused(Refusal::OutputTooShort(need as u64));
     }
-    sides::inner::fill_q(q, l, bytes);
+    quadratic::inner::linear::fill_q(q, l, bytes);
     Written::Count(need as u64)
 }
 
@@ -53,14 +53,14 @@ pub(crate) fn put_p(
     if starts.len() < need {
         return Written::Refused(Refusal::OutputTooShort(need as u64));
     }
-    let count = sides::inner::quadratic::count_p(l, bytes);
+    let count = quadratic::inner::count_p(l, bytes);
     if rows.len() < count {
         return Written::Refused(Refusal::OutputTooShort(count as u64));
     }
     if values.len() < count {
         return Written::Refused(Refusal::OutputTooShort(count as u64));
     }
-    let written = sides::inner::quadratic::fill_p(starts, rows, values, l, bytes);
+    let written = quadratic::inner::fill_p(starts, rows, values, l, bytes);
     Written::Count(written as u64)
 }
 

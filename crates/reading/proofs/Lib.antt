@@ -1,4 +1,3 @@
-pub mod Costs
 pub mod Halves
 pub mod Readings
 pub mod Order

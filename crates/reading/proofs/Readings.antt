@@ -27,7 +27,7 @@ use Rattle.numbering.specs.Laid.{netOf, Laid}
 use Rattle.numbering.specs.declared.SocWrLayout.{SocWrLayout}
 use Rattle.numbering.specs.declared.ColumnName.the-variants.{Pg, Qg, W, Wr, Wi, Pf, Pt, Qf, Qt}
 use Rattle.numbering.specs.declared.RowName.the-variants.{Pbal, Qbal}
-use Rattle.numbering.proofs.Laid.{laid, laid-nvar, laid-ncon, laid-row}
+use Rattle.numbering.proofs.Laid.{laid, laid-nvar, laid-ncon, laid-row, pg-follows, pg-fits}
 use Rattle.numbering.proofs.Numbers.{column-number, layout-column, layout-row, layout-nvar}
 use Rattle.solution.proofs.Lengths.{x-long, z-long}
 use Rattle.reading.specs.Reading.{partColumn, partCount, partList, partIf, partCheck, partOf, pricesCheck, priceList, scalarIf, objectiveAt}
@@ -57,7 +57,7 @@ module _ (l : SocWrLayout) (b : List ℕ) where
   start p = layoutColumn l (partColumn p 0)
 
   pub in-order : (p : SolutionList) (i : ℕ) → start p + i ≡ columnNumber (netOf l b) (partColumn p i)
-  in-order SolutionList.Pg i = omega (arith, layout-column l (Pg 0), column-number (netOf l b) (Pg i))
+  in-order SolutionList.Pg i = pg-follows l b i
   in-order SolutionList.Qg i = omega (arith, layout-column l (Qg 0), column-number (netOf l b) (Qg i))
   in-order SolutionList.W i = omega (arith, layout-column l (W 0), column-number (netOf l b) (W i))
   in-order SolutionList.Wr i = omega (arith, layout-column l (Wr 0), column-number (netOf l b) (Wr i))
@@ -68,7 +68,7 @@ module _ (l : SocWrLayout) (b : List ℕ) where
   in-order SolutionList.Qt i = omega (arith, layout-column l (Qt 0), column-number (netOf l b) (Qt i))
 
   pub part-fits : (p : SolutionList) → start p + partCount (l .n) (l .m) (l .k) p ≤ nvarOf l
-  part-fits SolutionList.Pg = omega (arith, layout-column l (Pg 0), layout-nvar l)
+  part-fits SolutionList.Pg = pg-fits l
   part-fits SolutionList.Qg = omega (arith, layout-column l (Qg 0), layout-nvar l)
   part-fits SolutionList.W = omega (arith, layout-column l (W 0), layout-nvar l)
   part-fits SolutionList.Wr = omega (arith, layout-column l (Wr 0), layout-nvar l)

@@ -18,7 +18,7 @@ use Rattle.numbering.specs.declared.ColumnName.the-variants.{Pg, Qg, W, Wr, Wi,
 use Rattle.numbering.specs.declared.RowName.the-variants.{Pbal, Qbal}
 use Rattle.rows.specs.Rows.{zero64}
 use Rattle.solution.specs.Lengths.{xCause, zCause, solutionCause}
-use Rattle.reading.specs.Cost.{totalCost}
+use Rattle.cost.specs.Cost.{totalCost}
 use Rattle.reading.specs.declared.PreparedObjective.{PreparedObjective}
 use Rattle.reading.specs.declared.PreparedObjective.the-variants.{Feasibility, NetworkGeneratorCost, Other}
 use Rattle.reading.specs.declared.SolutionList.{SolutionList}

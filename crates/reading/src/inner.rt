@@ -1,3 +1,2 @@
 // What the entries do once their checks have passed.
-pub mod cost;
 pub mod fill;

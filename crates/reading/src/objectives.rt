@@ -2,8 +2,8 @@
 use crate::PreparedObjective;
 use crate::Scalar;
 use crate::checks::check_part;
-use crate::inner::cost;
 use crate::part_check;
+use cost::inner::total_cost;
 use numbering::SocWrLayout;
 use refusals::Checked;
 use refusals::Refusal;
@@ -32,7 +32,7 @@ fn value(l: SocWrLayout, bytes: &[u8], objective: PreparedObjective, x: &[f64], 
 {
     match objective {
         PreparedObjective::Feasibility => 0.0,
-        PreparedObjective::NetworkGeneratorCost => cost::total_cost(l, bytes, x),
+        PreparedObjective::NetworkGeneratorCost => total_cost(l, bytes, x),
         PreparedObjective::Other => solver,
     }
 }

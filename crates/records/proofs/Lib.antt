@@ -2,6 +2,5 @@ pub mod Floats
 pub mod Causes
 pub mod Laws
 pub mod Sound
-pub mod Passed
 pub mod Segments
 pub mod Order

@@ -10,7 +10,7 @@ use lib.Ieee.{Float}
 use Rattle.lists.specs.UpTo.{listed}
 use Rattle.cells.specs.Filled.{Filled}
 use Rattle.cells.proofs.Fills.{filled-none, filled-more, filled-all, kept-length}
-use Rattle.sides.specs.Runs.{Run, run, withRuns, RunsOver}
+use Rattle.cells.specs.Runs.{Run, run, withRuns, RunsOver}
 
 -- what is written before a filled part could have been written first
 set-sets : (xs l : List Float) (at p : ℕ) (v : Float) → p < at → set (sets l at xs) p v ≡ sets (set l p v) at xs

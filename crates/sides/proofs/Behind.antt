@@ -8,9 +8,9 @@ use lib.Ieee.{Float}
 use Rattle.lists.specs.UpTo.{each, listed}
 use Rattle.cells.specs.Filled.{Filled}
 use Rattle.cells.proofs.Fills.{filled-nothing, filled-turn, filled-whole, kept-length}
-use Rattle.sides.specs.Runs.{run, RunsOver}
+use Rattle.cells.specs.Runs.{run, RunsOver}
 use Rattle.sides.proofs.Across.{lane, Across, across-none, across-two, across-all, across-length, filled-under}
-use Rattle.sides.proofs.Runs.{one-run, _thenRuns_}
+use Rattle.cells.proofs.Runs.{one-run, _thenRuns_}
 
 pub record Behind (c i : ℕ) (f g : ℕ → Float) (h : ℕ → List Float) (p r q : ℕ) (l l′ : List Float) : Type 0 where
   pub mid : List Float

@@ -10,8 +10,8 @@ use native.Mathlib.Omega.{arith}
 use lib.ListN.{length, getD}
 use lib.Ieee.{Float, neg}
 use Rattle.lists.specs.UpTo.{upTo, each, listed, overlay, when, bit, sum}
-use Rattle.lists.proofs.Each.{each-ext, each-split}
-use Rattle.lists.proofs.Sums.{sum-mul, sum-next, sum-mono}
+use Rattle.lists.proofs.Each.{each-ext, each-sums}
+use Rattle.lists.proofs.Sums.{sum-mul, sum-room}
 use Rattle.records.specs.AcNetwork.{AcNetwork}
 use Rattle.records.specs.Fields.{interceptOf}
 use Rattle.records.proofs.Segments.{segment-record}
@@ -28,20 +28,10 @@ use Rattle.numbering.proofs.Laid.{limits-are, laid-ncon}
 use Rattle.rows.specs.Rows.{b, zero64}
 use Rattle.matrix.specs.Lists.{rightSide}
 use Rattle.cells.proofs.Fills.{listed-length}
-use Rattle.sides.specs.Runs.{Run, run, RunsOver}
+use Rattle.cells.specs.Runs.{Run, run, RunsOver}
 use Rattle.sides.specs.Sides.{sideAt, blockRun, zeroRun, ratingSides, ratingsAt, ohmRuns, busRuns, generatorRuns, segmentRun, jabrRun, thermalRun, branchRuns}
 use Rattle.sides.proofs.Ratings.{ratings-length}
-use Rattle.sides.proofs.Runs.{Windows, none, more, Covered, runs-front}
-
--- groups that follow each other, numbered through
-pub each-sums : {A : Type 0} (c : ℕ → ℕ) (h : ℕ → List A) (n : ℕ) → each (sum n c) h ≡ each n (λ i. each (c i) (λ t. h (sum i c + t)))
-unfolding upTo
-each-sums c h zero = refl
-each-sums c h (suc n) = each-split h (sum n c) (c n) ∙ rw (each-sums c h n)
-
--- a record's points are among all
-pub sum-room : (i n : ℕ) (c : ℕ → ℕ) → i < n → sum i c + c i ≤ sum n c
-sum-room i n c h = omega (arith, sum-next i c, sum-mono (i + 1) n c (omega arith))
+use Rattle.cells.proofs.Runs.{Windows, none, more, Covered, runs-front}
 
 module _ (l : SocWrLayout) (bytes : List ℕ) (laid : Laid l bytes) where
   abbrev G : AcNetwork Float

@@ -1,7 +1,7 @@
 -- b in the runs in which the code writes it, one for each block of rows, and the blocks that a loop over buses or generators fills.
 use Prim.Native.Nat.{ℕ, _+_, _*_}
 use mathlib.Core.List.{List, [], _∷_}
-use lib.Ieee.{Float, binary64, neg, add}
+use lib.Ieee.{Float, neg}
 use Rattle.lists.specs.UpTo.{each, listed, when}
 use Rattle.records.specs.Fields.{interceptOf}
 use Rattle.numbering.specs.Numbering.{rowKey}
@@ -11,7 +11,7 @@ use Rattle.numbering.specs.declared.SocWrLayout.{SocWrLayout}
 use Rattle.numbering.specs.declared.RowName.{RowName}
 use Rattle.numbering.specs.declared.RowName.the-variants.{Pbal, Qbal, OhmPf, OhmQf, OhmPt, OhmQt, Wub, Wlb, Pgub, Pglb, Qgub, Qglb, Angub, Anglb, Segment, Jabr, Thermal}
 use Rattle.rows.specs.Rows.{b, zero64}
-use Rattle.sides.specs.Runs.{Run, run}
+use Rattle.cells.specs.Runs.{Run, run}
 
 -- the numbers of those blocks
 pub data BusBlock : ℕ → Type 0 where
@@ -65,7 +65,3 @@ thermalRun l bytes = run (layoutRow l (Thermal 0 0)) (each (l .m) (ratingsAt l b
 
 abbrev pub branchRuns : SocWrLayout → List ℕ → List Run
 branchRuns l bytes = blockRun l bytes (l .m) Angub ∷ blockRun l bytes (l .m) Anglb ∷ thermalRun l bytes ∷ []
-
--- q at pg g: cl is added to 0
-unfoldable pub linearCost : SocWrLayout → List ℕ → ℕ → Float
-linearCost l bytes g = add binary64 zero64 (netOf l bytes .cl g)

@@ -1,12 +1,14 @@
-// q and b: lists of floats.
+// b: a list of floats.
 use bounds::inner::angle;
 use bounds::inner::lower_active;
 use bounds::inner::lower_reactive;
 use bounds::inner::lower_voltage;
+use bounds::inner::rating;
 use bounds::inner::segment_side;
 use bounds::inner::upper_active;
 use bounds::inner::upper_reactive;
 use bounds::inner::upper_voltage;
+use cells::inner::fill_all;
 use numbering::SocWrLayout;
 use numbering::inner::blocks;
 ghost use mathlib.Core.Path.{_≡_};
@@ -17,18 +19,14 @@ ghost use Rattle.lists.specs.UpTo.{listed, when, overlay};
 ghost use Rattle.records.specs.Fields.{interceptOf};
 ghost use Rattle.numbering.specs.Blocks.{key};
 ghost use Rattle.numbering.specs.Numbering.{rowOf};
-ghost use Rattle.numbering.specs.Layout.{InRange, layoutColumn, nvarOf, nconOf};
-ghost use Rattle.numbering.specs.declared.ColumnName.the-variants.{Pg};
+ghost use Rattle.numbering.specs.Layout.{InRange, nconOf};
 ghost use Rattle.numbering.specs.declared.RowName.the-variants.{Angub, Anglb};
 ghost use Rattle.numbering.specs.Laid.{netOf, Laid};
 ghost use Rattle.rows.specs.Rows.{b};
-ghost use Rattle.rows.specs.Program.{linear};
 ghost use Rattle.matrix.specs.Lists.{rightSide};
 ghost use Rattle.cells.specs.Filled.{Filled};
-ghost use Rattle.sides.specs.Runs.{RunsOver};
-ghost use Rattle.sides.specs.Sides.{BusBlock, GenBlock, sideAt, ohmRuns, busRuns, generatorRuns, branchRuns, ratingSides, linearCost};
-
-pub mod quadratic;
+ghost use Rattle.cells.specs.Runs.{RunsOver};
+ghost use Rattle.sides.specs.Sides.{BusBlock, GenBlock, sideAt, ohmRuns, busRuns, generatorRuns, branchRuns, ratingSides};
 
 // The right side of bus i in block pbal, qbal, wub or wlb.
 fn bus_rhs(l: SocWrLayout, bytes: &[u8], block: usize, i: usize) -> f64
@@ -127,17 +125,6 @@ fn fill_capabilities(out: &mut [f64], l: SocWrLayout, bytes: &[u8])
     }
 }
 
-fn fill_all(out: &mut [f64], at: usize, count: usize, v: f64)
-    requires { ⌜ at + count ≤ length (now out) ⌝ }
-    ensures { λ _. ⌜ Filled (listed count (λ j. v)) (now (out .entry)) at (now (out .exit)) ⌝ }
-{
-    let mut i = 0;
-    while i < count {
-        out[at + i] = v;
-        i += 1;
-    }
-}
-
 // The negated intercepts of the segments, from the first one's record on.
 fn fill_intercepts(out: &mut [f64], at: usize, bytes: &[u8], first: usize, count: usize)
     requires { ⌜ 128 * (first + count) ≤ length (now bytes) ⌝ }
@@ -191,7 +178,7 @@ fn fill_branches(out: &mut [f64], l: SocWrLayout, bytes: &[u8])
         let r = l.n + e;
         let v = angle_rhs(l, bytes, e);
         let on = records::inner::thermal_limit_active(bytes, r);
-        let rate_a = records::inner::rate_a(bytes, r);
+        let rate_a = rating(l, bytes, e);
         out[angub + e] = v;
         out[anglb + e] = v;
         next = put_rating(out, next, on, rate_a);
@@ -231,32 +218,4 @@ pub fn fill_b(out: &mut [f64], l: SocWrLayout, bytes: &[u8])
     fill_intercepts(out, cost, bytes, segments, l.s);
     fill_all(out, jabr, cones, 0.0);
     fill_branches(out, l, bytes);
-}
-
-// 0 with the linear cost added, at each pg.
-fn fill_costs(out: &mut [f64], l: SocWrLayout, bytes: &[u8])
-    requires { ⌜ Laid l (now bytes) ⌝ }
-    requires { ⌜ nvarOf l ≤ length (now out) ⌝ }
-    ensures { λ _. ⌜ Filled (listed (l .k) (linearCost l (now (bytes .entry)))) (now (out .entry)) (layoutColumn l (Pg 0)) (now (out .exit)) ⌝ }
-{
-    let k = l.k;
-    let pg = l.pg_column(0) as usize;
-    let mut g = 0;
-    while g < k {
-        out[pg + g] = 0.0 + records::inner::cl(bytes, l.n + l.m + g);
-        g += 1;
-    }
-}
-
-// All of q: zeros, then the cost of each pg, and 1 at each cost column.
-pub fn fill_q(out: &mut [f64], l: SocWrLayout, bytes: &[u8])
-    requires { ⌜ Laid l (now bytes) ⌝ }
-    requires { ⌜ nvarOf l ≤ length (now out) ⌝ }
-    ensures { λ _. ⌜ now (out .exit) ≡ overlay (linear (netOf l (now (bytes .entry)))) (now (out .entry)) ⌝ }
-{
-    let all = l.column_count() as usize;
-    let cost = l.cost_column(0) as usize;
-    fill_all(out, 0, all, 0.0);
-    fill_costs(out, l, bytes);
-    fill_all(out, cost, l.cost_columns, 0.0 + 1.0);
 }

@@ -1,2 +1,2 @@
-// The writers of P, q and b.
+// The writer of b.
 pub mod inner;

@@ -1,9 +1,5 @@
 // One column of the KKT system by a parameter.
 use crate::inner::limit::line_limit;
-use crate::inner::plain::cost;
-use crate::inner::plain::demand;
-use crate::inner::plain::gen_bound;
-use crate::inner::plain::voltage_bound;
 use admittance::inner::series::series_admittance;
 use admittance::inner::shunt::shunt;
 use elements::inner::lengths::asks_cost;
@@ -12,6 +8,10 @@ use elements::inner::lengths::parameter_count;
 use interface::Parameter;
 use lists::inner::fill_f64;
 use numbering::SocWrLayout;
+use plain_columns::inner::cost;
+use plain_columns::inner::demand;
+use plain_columns::inner::gen_bound;
+use plain_columns::inner::voltage_bound;
 use records::inner::id;
 use records::inner::piecewise;
 use refusals::Checked;

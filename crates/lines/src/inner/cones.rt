@@ -4,11 +4,11 @@ use super::single;
 use super::spot;
 use crate::Cone;
 use crate::Line;
+use bounds::inner::rating;
 use lists::inner::wide;
 use numbering::SocWrLayout;
 use records::inner::br_from;
 use records::inner::br_to;
-use records::inner::rate_a;
 ghost use mathlib.Core.Path.{_≡_};
 ghost use mathlib.Core.Bool.{true};
 ghost use Prim.Native.Nat.{_+_, _<_};
@@ -82,14 +82,7 @@ pub fn thermal_from(l: SocWrLayout, bytes: &[u8], e: usize, limits: usize) -> Co
     let a = l.thermal_row(limits, 0);
     let b = l.thermal_row(limits, 1);
     let c = l.thermal_row(limits, 2);
-    thermal(
-        a,
-        b,
-        c,
-        rate_a(bytes, l.n + e),
-        l.pf_column(e),
-        l.qf_column(e),
-    )
+    thermal(a, b, c, rating(l, bytes, e), l.pf_column(e), l.qf_column(e))
 }
 
 pub fn thermal_to(l: SocWrLayout, bytes: &[u8], e: usize, limits: usize) -> Cone
@@ -100,12 +93,5 @@ pub fn thermal_to(l: SocWrLayout, bytes: &[u8], e: usize, limits: usize) -> Cone
     let a = l.thermal_row(limits, 3);
     let b = l.thermal_row(limits, 4);
     let c = l.thermal_row(limits, 5);
-    thermal(
-        a,
-        b,
-        c,
-        rate_a(bytes, l.n + e),
-        l.pt_column(e),
-        l.qt_column(e),
-    )
+    thermal(a, b, c, rating(l, bytes, e), l.pt_column(e), l.qt_column(e))
 }

@@ -3,7 +3,7 @@ use borrow.Author.Needs.{needs}
 use mathlib.Core.Path.{refl, sym, _∙_}
 use native.Mathlib.Omega.{arith}
 use denote.Ref.{now}
-use Rattle.sides.proofs.Quad.{quad-count, quad-starts}
+use Rattle.quadratic.proofs.Quad.{quad-count, quad-starts}
 use Rattle.program.proofs.Answers.{short-starts, short-rows, short-vals, columns-written}
 use Rattle.program.proofs.sized.put_p.Statement.{statement}
 use Rattle.program.proofs.sized.put_p.Tie as tie

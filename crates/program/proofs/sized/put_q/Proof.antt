@@ -3,7 +3,7 @@ use borrow.Author.Needs.{needs}
 use mathlib.Core.Path.{refl, sym, _∙_}
 use native.Mathlib.Omega.{arith}
 use denote.Ref.{now}
-use Rattle.sides.proofs.Linear.{linear-length}
+use Rattle.quadratic.proofs.Linear.{linear-length}
 use Rattle.program.proofs.Answers.{floats-short, floats-written}
 use Rattle.program.proofs.sized.put_q.Statement.{statement}
 use Rattle.program.proofs.sized.put_q.Tie as tie

@@ -9,7 +9,7 @@ use Rattle.numbering.specs.declared.RowName.the-variants.{Segment, Jabr}
 use Rattle.numbering.proofs.Numbers.{layout-row, layout-ncon}
 use Rattle.cells.proofs.Fills.{kept-length}
 use Rattle.sides.specs.Sides.{zeroRun, segmentRun}
-use Rattle.sides.proofs.Runs.{one-run, _thenRuns_, runs-length}
+use Rattle.cells.proofs.Runs.{one-run, _thenRuns_, runs-length}
 use Rattle.sides.proofs.RightSide.{right-runs}
 use borrow.Author.Needs.{needs}
 use Rattle.sides.proofs.inner.fill_b.Statement.{statement}

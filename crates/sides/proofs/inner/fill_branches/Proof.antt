@@ -9,6 +9,7 @@ use Rattle.lists.specs.UpTo.{upTo, each, when}
 use Rattle.lists.proofs.Each.{each-more}
 use Rattle.numbering.specs.declared.RowName.the-variants.{Angub, Anglb, Thermal}
 use Rattle.numbering.proofs.Numbers.{layout-row, layout-ncon}
+use Rattle.rows.specs.Rows.{b}
 use Rattle.cells.specs.Filled.{Filled}
 use Rattle.sides.specs.Sides.{sideAt, blockRun, ratingSides, ratingsAt, thermalRun}
 use Rattle.sides.proofs.Ratings.{ratings-room}
@@ -42,16 +43,16 @@ slice-write-out-2 : tie.Need-slice-write-out-2 Inv-loop μ-loop
 slice-write-out-2 c = simp length-set (omega (arith, behind-length (c .before .before .before .before .before .loop .inv .3)))
 
 put-rating-requires : tie.Need-put-rating-requires Inv-loop μ-loop
-unfolding ratingsAt
+unfolding ratingsAt b
 put-rating-requires c κs =
     let s = c .before .before .before .before .before .before .before .before .before .before .before .before in
     let a = s .args in
     let o = c .before .before .before .before .before .before .loop in
-    let h : when (c .before .before .thermal-limit-active .result) (ratingSides (c .before .rate-a .result)) ≡ ratingsAt (a .l) (now (a .bytes)) (o .e) = cc in
+    let h : when (c .before .before .thermal-limit-active .result) (ratingSides (c .before .rating .result)) ≡ ratingsAt (a .l) (now (a .bytes)) (o .e) = cc in
     simp length-set (omega (arith, ap length h, behind-length (o .inv .3), ratings-room (a .l) (now (a .bytes)) (s .pre .0) (o .e) (omega arith)))
 
 loop-again : tie.Need-loop-again Inv-loop μ-loop
-unfolding ratingsAt
+unfolding ratingsAt b
 loop-again c =
     let a = c .before .before .before .before .before .before .before .before .before .before .before .before .before .before .before .args in
     let e = c .before .before .before .before .before .before .before .before .before .loop .e in
@@ -60,7 +61,7 @@ loop-again c =
     let f = ratingsAt (a .l) (now (a .bytes)) in
     let g = sideAt (a .l) (now (a .bytes)) in
     let v = c .before .before .before .before .before .before .angle-rhs .ensures in
-    let h : when (c .before .before .before .before .before .thermal-limit-active .result) (ratingSides (c .before .before .before .before .rate-a .result)) ≡ f e = cc in
+    let h : when (c .before .before .before .before .before .thermal-limit-active .result) (ratingSides (c .before .before .before .before .rating .result)) ≡ f e = cc in
     let x : Filled (f e) _ _ _ = rw h at (w .0) in (
       omega arith,
       o .1,

@@ -7,7 +7,7 @@ use Rattle.numbering.specs.declared.RowName.the-variants.{OhmPf, OhmQf, OhmPt, 
 use Rattle.numbering.proofs.Numbers.{layout-row, layout-ncon}
 use Rattle.cells.proofs.Fills.{kept-length}
 use Rattle.sides.specs.Sides.{zeroRun}
-use Rattle.sides.proofs.Runs.{one-run, _thenRuns_}
+use Rattle.cells.proofs.Runs.{one-run, _thenRuns_}
 use borrow.Author.Needs.{needs}
 use Rattle.sides.proofs.inner.fill_ohms.Statement.{statement}
 use Rattle.sides.proofs.inner.fill_ohms.Tie as tie

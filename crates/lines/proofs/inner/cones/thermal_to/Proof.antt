@@ -22,9 +22,14 @@ thermal-row-requires-3 c κs =
 
 returns : tie.Need-returns
 returns c =
-    let s = c .before .before .before .before .before .before .before .before .before in
-    rw (c .thermal .ensures, c .before .before .before .rate-a .ensures, c .before .before .pt-column .ensures, c .before .qt-column .ensures)
-    (rw (c .before .before .before .before .before .before .before .thermal-row .ensures, c .before .before .before .before .before .before .thermal-row2 .ensures, c .before .before .before .before .before .thermal-row3 .ensures)
+    let flows = c .before in
+    let rate = flows .before .before in
+    let third = rate .before in
+    let second = third .before in
+    let first = second .before in
+    let s = first .before .before in
+    rw (c .thermal .ensures, rate .rating .ensures .1, flows .before .pt-column .ensures, flows .qt-column .ensures)
+    (rw (first .thermal-row .ensures, second .thermal-row2 .ensures, third .thermal-row3 .ensures)
     (to-stands _ _ (s .pre .0) _ _ (s .pre .1 .0) (s .pre .1 .1) (s .pre .1 .2)))
 
 pub thermal-to-spec : {M : Type 1} → statement M
@@ -34,7 +39,6 @@ thermal-to-spec =
     thermal-row-requires
     thermal-row-requires-2
     thermal-row-requires-3
-    (λ c. search needs)
     (λ c κs. search needs)
     (λ c κs. search needs)
     (λ c κs. search needs)

@@ -1,7 +1,0 @@
--- `columns::inner::plain::cost_slope` meets its contract. Assumes nothing.
-use borrow.Author.Needs.{needs}
-use Rattle.columns.proofs.inner.plain.cost_slope.Statement.{statement}
-use Rattle.columns.proofs.inner.plain.cost_slope.Tie as tie
-
-pub cost-slope-spec : {M : Type 1} → statement M
-cost-slope-spec = tie.close (tie.spec (λ c. search needs) (λ c. search needs) (λ c. rw (c .enum-told .given .1)) (λ c. search needs))

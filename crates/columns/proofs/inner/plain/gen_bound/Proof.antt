@@ -1,9 +1,0 @@
--- `columns::inner::plain::gen_bound` meets its contract. Assumes nothing.
-use borrow.Author.Needs.{needs}
-use Rattle.admittance.specs.Stores.{storedAll}
-use Rattle.columns.proofs.inner.plain.gen_bound.Statement.{statement}
-use Rattle.columns.proofs.inner.plain.gen_bound.Tie as tie
-
-pub gen-bound-spec : {M : Type 1} → statement M
-unfolding storedAll
-gen-bound-spec = tie.close (tie.spec (λ c κs. search needs) (λ c κs. search needs) (λ c κs. search needs) (λ c. search needs) (λ c. cc))

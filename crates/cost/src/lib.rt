@@ -1,0 +1,2 @@
+// What the generators' power costs.
+pub mod inner;

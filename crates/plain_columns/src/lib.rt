@@ -1,0 +1,2 @@
+// The columns that need the layout alone: demand, bounds and cost.
+pub mod inner;

@@ -1,0 +1,2 @@
+// The writers of P and q.
+pub mod inner;

@@ -1,0 +1,2 @@
+// The causes that turn one record away.
+pub mod inner;

@@ -1,9 +1,0 @@
--- `records::bus_form` meets its contract. Assumes nothing.
-use borrow.Author.Needs.{needs}
-use Rattle.records.specs.Check.{busForm}
-use Rattle.records.proofs.bus_form.Statement.{statement}
-use Rattle.records.proofs.bus_form.Tie as tie
-
-pub bus-form-spec : {M : Type 1} → statement M
-unfolding busForm
-bus-form-spec = tie.close (tie.spec (λ c κs. search needs) (λ c κs. search needs) (λ c κs. search needs) (λ c κs. search needs) (λ c κs. search needs) (λ c κs. search needs) (λ c. cc))

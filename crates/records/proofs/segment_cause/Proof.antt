@@ -1,9 +1,0 @@
--- `records::segment_cause` meets its contract. Assumes nothing.
-use borrow.Author.Needs.{needs}
-use Rattle.records.specs.Check.{segmentCause}
-use Rattle.records.proofs.segment_cause.Statement.{statement}
-use Rattle.records.proofs.segment_cause.Tie as tie
-
-pub segment-cause-spec : {M : Type 1} → statement M
-unfolding segmentCause
-segment-cause-spec = tie.close (tie.spec (λ c κs. search needs) (λ c κs. search needs) (λ c. cc))

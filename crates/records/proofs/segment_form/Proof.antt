@@ -1,9 +1,0 @@
--- `records::segment_form` meets its contract. Assumes nothing.
-use borrow.Author.Needs.{needs}
-use Rattle.records.specs.Check.{segmentForm}
-use Rattle.records.proofs.segment_form.Statement.{statement}
-use Rattle.records.proofs.segment_form.Tie as tie
-
-pub segment-form-spec : {M : Type 1} → statement M
-unfolding segmentForm
-segment-form-spec = tie.close (tie.spec (λ c κs. search needs) (λ c κs. search needs) (λ c κs. search needs) (λ c κs. search needs) (λ c κs. search needs) (λ c κs. search needs) (λ c κs. search needs) (λ c. cc))
