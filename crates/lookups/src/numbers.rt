@@ -104,7 +104,7 @@ fn jabr_row(l: SocWrLayout, bytes: &[u8], e: usize, place: usize) -> Lookup
     if l.m <= e {
         return past(e);
     }
-    if 4 <= place {
+    if blocks::JABR_ROWS <= place {
         return past(place);
     }
     Lookup::Number(l.jabr_row(e, place))
@@ -121,7 +121,7 @@ fn thermal_row(l: SocWrLayout, bytes: &[u8], e: usize, place: usize) -> Lookup
     if !records::inner::thermal_limit_active(bytes, l.n + e) {
         return Lookup::Absent;
     }
-    if 6 <= place {
+    if blocks::THERMAL_ROWS <= place {
         return past(place);
     }
     let before = tally(bytes, Tally::Limited, l.n, e);

@@ -72,10 +72,10 @@ fn row_at(l: SocWrLayout, bytes: &[u8], p: usize) -> RowName
         return RowName::Segment(g.item, g.at);
     }
     if block == blocks::JABR {
-        return RowName::Jabr(at / 4, at % 4);
+        return RowName::Jabr(at / blocks::JABR_ROWS, at % blocks::JABR_ROWS);
     }
-    let e = locate(bytes, Tally::Limited, l.n, l.m, at / 6);
-    RowName::Thermal(e.item, at % 6)
+    let e = locate(bytes, Tally::Limited, l.n, l.m, at / blocks::THERMAL_ROWS);
+    RowName::Thermal(e.item, at % blocks::THERMAL_ROWS)
 }
 
 pub fn column_name(n: usize, m: usize, k: usize, s: usize, bytes: &[u8], p: usize) -> ColumnAnswer

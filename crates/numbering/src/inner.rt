@@ -300,7 +300,7 @@ impl SocWrLayout {
         requires { ⌜ (e ≤ self .m) × (place < 4) ⌝ }
         ensures { λ r. ⌜ r ≡ layoutRow self (Jabr e place) ⌝ }
     {
-        self.row_start(blocks::JABR) + (4 * e + place) as u32
+        self.row_start(blocks::JABR) + (blocks::JABR_ROWS * e + place) as u32
     }
 
     // A row of the two cones of three of the limited branch that has so many before it.
@@ -309,6 +309,6 @@ impl SocWrLayout {
         requires { ⌜ (rank ≤ self .t) × (place < 6) ⌝ }
         ensures { λ r. ⌜ r ≡ layoutRow self (Thermal rank place) ⌝ }
     {
-        self.row_start(blocks::THERMAL) + (6 * rank + place) as u32
+        self.row_start(blocks::THERMAL) + (blocks::THERMAL_ROWS * rank + place) as u32
     }
 }

@@ -209,7 +209,7 @@ pub fn fill_b(out: &mut [f64], l: SocWrLayout, bytes: &[u8])
     ensures { λ _. ⌜ now (out .exit) ≡ overlay (rightSide (netOf l (now (bytes .entry)))) (now (out .entry)) ⌝ }
 {
     let segments = l.n + l.m + l.k;
-    let cones = 4 * l.m;
+    let cones = blocks::JABR_ROWS * l.m;
     let cost = l.segment_row(0) as usize;
     let jabr = l.jabr_row(0, 0) as usize;
     fill_buses(out, l, bytes);

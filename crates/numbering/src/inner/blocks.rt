@@ -65,6 +65,11 @@ pub const THERMAL: usize = 16;
 
 pub const ROW_BLOCKS: usize = 17;
 
+// The rows of a branch in jabr, and of a limited branch in thermal.
+pub const JABR_ROWS: usize = 4;
+
+pub const THERMAL_ROWS: usize = 6;
+
 pub type ColumnSizes = [usize; 10];
 
 pub type RowSizes = [usize; 17];
@@ -95,8 +100,8 @@ pub fn row_sizes(l: SocWrLayout) -> RowSizes
         l.m,
         l.m,
         l.s,
-        4 * l.m,
-        6 * l.t,
+        JABR_ROWS * l.m,
+        THERMAL_ROWS * l.t,
     ]
 }
 
