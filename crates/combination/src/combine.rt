@@ -9,7 +9,7 @@ ghost use lib.Ieee.{binary64, nan, mul};
 ghost use lib.ListN.{length, getD};
 ghost use Rattle.lists.specs.UpTo.{listed};
 ghost use Rattle.sparse.specs.Sparse.{itemsOf};
-ghost use Rattle.sparse.specs.Checks.{selectorFits};
+ghost use Rattle.sparse.specs.Checks.{mostDim, selectorFits};
 ghost use Rattle.combination.specs.Combination.{forwardAt, adjointAt, table};
 ghost use Rattle.combination.specs.Summed.{Summed};
 
@@ -56,7 +56,7 @@ pub(crate) fn forward_into(
 
 // The nonzero values of each column by each item's column of the solution, added in the order of the rows.
 fn add_columns(out: &mut [f64], dim: usize, columns: usize, items: usize, rhs: &[f64], y: &[f64])
-    requires { ⌜ (dim ≤ 294912) × (columns ≤ 65536) × (items ≤ 65536) × (length (now rhs) ≡ dim * columns) × (length (now y) ≡ dim * items) × (length (now out) ≡ items * columns) ⌝ }
+    requires { ⌜ (dim ≤ mostDim) × (columns ≤ 65536) × (items ≤ 65536) × (length (now rhs) ≡ dim * columns) × (length (now y) ≡ dim * items) × (length (now out) ≡ items * columns) ⌝ }
     ensures { λ _. ⌜ Summed items columns dim (now (rhs .entry)) (now (y .entry)) (λ k. dim) (now (out .entry)) (now (out .exit)) ⌝ }
 {
     if dim == 0 {
@@ -98,7 +98,7 @@ pub(crate) fn adjoint_into(
     rhs: &[f64],
     y: &[f64],
 )
-    requires { ⌜ (dim ≤ 294912) × (columns ≤ 65536) × (items ≤ 65536) × (length (now rhs) ≡ dim * columns) × (length (now y) ≡ dim * items) × (length (now out) ≡ items * columns) ⌝ }
+    requires { ⌜ (dim ≤ mostDim) × (columns ≤ 65536) × (items ≤ 65536) × (length (now rhs) ≡ dim * columns) × (length (now y) ≡ dim * items) × (length (now out) ≡ items * columns) ⌝ }
     ensures { λ _. ⌜ (now (out .exit) ≡ table items columns (adjointAt dim sign (now (rhs .entry)) (now (y .entry)))) × (length (now (out .exit)) ≡ items * columns) ⌝ }
 {
     fill_f64(out, out.len(), 0.0);

@@ -16,7 +16,7 @@ ghost use lib.ListN.{length};
 ghost use Rattle.lists.specs.Entries.{entry};
 ghost use Rattle.refusals.specs.Refusals.{writtenIf, leftIn};
 ghost use Rattle.sparse.specs.Sparse.{entries};
-ghost use Rattle.sparse.specs.Checks.{bounded as boundedOf, entriesFit};
+ghost use Rattle.sparse.specs.Checks.{mostDim, bounded as boundedOf, entriesFit};
 ghost use Rattle.residual.specs.Residual.{subtractEntry, subtractColumn, subtractEntries, diagonal, residual as residualOf};
 ghost use Rattle.residual.specs.Checks.{residualFits, residualCheck};
 
@@ -30,7 +30,7 @@ fn subtract_entry(
     value: f64,
     answer: &[f64],
 )
-    requires { ⌜ (row < dim) × (col < dim) × (dim ≤ 294912) × (length (now out) ≡ dim * columns) × (length (now answer) ≡ dim * columns) ⌝ }
+    requires { ⌜ (row < dim) × (col < dim) × (dim ≤ mostDim) × (length (now out) ≡ dim * columns) × (length (now answer) ≡ dim * columns) ⌝ }
     ensures { λ _. ⌜ now (out .exit) ≡ subtractEntry dim columns (now (answer .entry)) (entry row col value) (now (out .entry)) ⌝ }
 {
     let mut at = row;
@@ -53,7 +53,7 @@ fn subtract_column(
     values: &[f64],
     answer: &[f64],
 )
-    requires { ⌜ (entriesFit dim (now rows) (now cols) (now values) ≡ true) × (dim ≤ 294912) × (c < columns) × (columns ≤ 65536) × (length (now out) ≡ dim * columns) × (length (now answer) ≡ dim * columns) ⌝ }
+    requires { ⌜ (entriesFit dim (now rows) (now cols) (now values) ≡ true) × (dim ≤ mostDim) × (c < columns) × (columns ≤ 65536) × (length (now out) ≡ dim * columns) × (length (now answer) ≡ dim * columns) ⌝ }
     ensures { λ _. ⌜ now (out .exit) ≡ subtractColumn dim (now (answer .entry)) (entries (now (rows .entry)) (now (cols .entry)) (now (values .entry))) c (now (out .entry)) ⌝ }
 {
     let base = c * dim;
@@ -74,7 +74,7 @@ fn subtract_entries(
     values: &[f64],
     answer: &[f64],
 )
-    requires { ⌜ (entriesFit dim (now rows) (now cols) (now values) ≡ true) × (dim ≤ 294912) × (columns ≤ 65536) × (length (now out) ≡ dim * columns) × (length (now answer) ≡ dim * columns) ⌝ }
+    requires { ⌜ (entriesFit dim (now rows) (now cols) (now values) ≡ true) × (dim ≤ mostDim) × (columns ≤ 65536) × (length (now out) ≡ dim * columns) × (length (now answer) ≡ dim * columns) ⌝ }
     ensures { λ _. ⌜ now (out .exit) ≡ subtractEntries dim columns (now (answer .entry)) (entries (now (rows .entry)) (now (cols .entry)) (now (values .entry))) (now (out .entry)) ⌝ }
 {
     for c in 0..columns {
@@ -83,7 +83,7 @@ fn subtract_entries(
 }
 
 fn subtract_diagonal(out: &mut [f64], dim: usize, columns: usize, eps: f64, answer: &[f64])
-    requires { ⌜ (dim ≤ 294912) × (length (now out) ≡ dim * columns) × (length (now answer) ≡ dim * columns) ⌝ }
+    requires { ⌜ (dim ≤ mostDim) × (length (now out) ≡ dim * columns) × (length (now answer) ≡ dim * columns) ⌝ }
     ensures { λ _. ⌜ now (out .exit) ≡ subtractEntries dim columns (now (answer .entry)) (diagonal dim eps) (now (out .entry)) ⌝ }
 {
     for d in 0..dim {

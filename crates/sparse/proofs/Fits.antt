@@ -11,11 +11,11 @@ use lib.ListN.{length, getD}
 use lib.Ieee.{Float}
 use Rattle.lists.proofs.Tests.{both, all-at}
 use Rattle.sparse.specs.Sparse.{itemsOf, startOf}
-use Rattle.sparse.specs.Checks.{bounded, allBelow, entriesFit, startsFit, selectorFits}
+use Rattle.sparse.specs.Checks.{mostDim, bounded, allBelow, entriesFit, startsFit, selectorFits}
 
 pub record Bounded (dim columns : ℕ) : Type 0 where
   pub few : columns ≤ 65536
-  pub small : dim ≤ 294912
+  pub small : dim ≤ mostDim
 
 pub bounds : (dim columns : ℕ) → bounded dim columns ≡ true → Bounded dim columns
 unfolding bounded

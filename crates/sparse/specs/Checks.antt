@@ -8,9 +8,13 @@ use lib.Ieee.{Float}
 use Rattle.lists.specs.UpTo.{all}
 use Rattle.sparse.specs.Sparse.{itemsOf, startOf}
 
+-- "dim above 294,912"; the KKT matrix of no accepted network is larger (kernel/proofs/Dims.antt)
+abbrev pub mostDim : ℕ
+mostDim = 294912
+
 -- not "more than 65,536 columns or items, dim above 294,912"
 unfoldable pub bounded : ℕ → ℕ → Bool
-bounded dim columns = leb columns 65536 && leb dim 294912
+bounded dim columns = leb columns 65536 && leb dim mostDim
 
 -- not "row or column outside dim"
 unfoldable pub allBelow : ℕ → List ℕ → Bool

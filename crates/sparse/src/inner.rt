@@ -6,7 +6,10 @@ ghost use lib.Dec.{leb};
 ghost use lib.ListN.{length};
 ghost use Rattle.lists.specs.UpTo.{all};
 ghost use Rattle.sparse.specs.Sparse.{itemsOf, startOf};
-ghost use Rattle.sparse.specs.Checks.{bounded as boundedOf, allBelow, entriesFit, startsFit, selectorFits};
+ghost use Rattle.sparse.specs.Checks.{mostDim, bounded as boundedOf, allBelow, entriesFit, startsFit, selectorFits};
+
+// The largest matrix that is taken.
+pub const MOST_DIM: usize = 294912;
 
 pub fn items_of(starts: &[u32]) -> usize
     ensures { λ r. ⌜ r ≡ itemsOf (now (starts .entry)) ⌝ }
@@ -20,7 +23,7 @@ pub fn items_of(starts: &[u32]) -> usize
 pub fn bounded(dim: usize, columns: usize) -> bool
     ensures { λ r. ⌜ r ≡ boundedOf dim columns ⌝ }
 {
-    (columns <= 65536) & (dim <= 294912)
+    (columns <= 65536) & (dim <= MOST_DIM)
 }
 
 // All elements are looked at, with no way out, so that the loop needs no branch.
@@ -35,7 +38,7 @@ fn all_below(limit: u32, s: &[u32]) -> bool
 }
 
 pub fn entries_fit(dim: usize, rows: &[u32], cols: &[u32], values: &[f64]) -> bool
-    requires { ⌜ dim ≤ 294912 ⌝ }
+    requires { ⌜ dim ≤ mostDim ⌝ }
     ensures { λ r. ⌜ r ≡ entriesFit dim (now (rows .entry)) (now (cols .entry)) (now (values .entry)) ⌝ }
 {
     let n = rows.len();

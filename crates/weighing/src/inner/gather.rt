@@ -9,6 +9,7 @@ ghost use lib.ListN.{length};
 ghost use Rattle.lists.specs.UpTo.{when};
 ghost use Rattle.lists.specs.Entries.{cell};
 ghost use Rattle.sparse.specs.Sparse.{zero64};
+ghost use Rattle.sparse.specs.Checks.{mostDim};
 ghost use Rattle.weighing.specs.Gathering.{span, Added, Stopped, Filling};
 
 // One value, kept behind the first n where it is not zero.
@@ -69,7 +70,7 @@ fn gather(
     values: &mut [f64],
     n: usize,
 ) -> Scanned
-    requires { ⌜ (first < dim) × (dim ≤ 294912) × (base + dim ≤ length (now rhs)) × (n < 512) × (length (now rows) ≡ 512) × (length (now values) ≡ 512) ⌝ }
+    requires { ⌜ (first < dim) × (dim ≤ mostDim) × (base + dim ≤ length (now rhs)) × (n < 512) × (length (now rows) ≡ 512) × (length (now values) ≡ 512) ⌝ }
     ensures { λ r. ⌜ (Stopped first dim (r .count) (r .next)) × Added dim (span (now (rhs .entry)) base first (r .next)) (now (rows .entry)) (now (values .entry)) n (now (rows .exit)) (now (values .exit)) (r .count) ⌝ }
 {
     let mut m = n;
@@ -116,7 +117,7 @@ pub fn fill(
     rows: &mut [u32],
     values: &mut [f64],
 ) -> Buffered
-    requires { ⌜ (column < columns) × (row < dim) × (dim ≤ 294912) × (columns ≤ 65536) × (length (now rhs) ≡ dim * columns) ⌝ }
+    requires { ⌜ (column < columns) × (row < dim) × (dim ≤ mostDim) × (columns ≤ 65536) × (length (now rhs) ≡ dim * columns) ⌝ }
     requires { ⌜ (length (now starts) ≡ 9) × (length (now rows) ≡ 512) × (length (now values) ≡ 512) ⌝ }
     ensures { λ r. ⌜ Filling dim columns column row (now (rhs .entry)) (now (starts .exit)) (now (rows .exit)) (now (values .exit)) (r .segments) (r .column) (r .row) ⌝ }
 {

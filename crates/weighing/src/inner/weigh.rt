@@ -5,6 +5,7 @@ ghost use mathlib.Core.Path.{_≡_};
 ghost use Prim.Native.Nat.{ℕ, _+_, _*_, _^_, _≤_, _<_};
 ghost use lib.ListN.{length, getD};
 ghost use Rattle.sparse.specs.Sparse.{segment};
+ghost use Rattle.sparse.specs.Checks.{mostDim};
 ghost use Rattle.weighing.specs.Weighing.{weighed};
 ghost use Rattle.weighing.specs.Passes.{place, Below, Spread, Passed, weighedAt, Segments};
 
@@ -145,7 +146,7 @@ pub fn weigh_all(
     weights: &[f64],
 )
     requires { ⌜ (Spread at dense across count segments (length (now out))) × (Segments dim (now starts) (now rows) (now weights) segments) × (length (now x) ≡ dim * count) ⌝ }
-    requires { ⌜ (at ≤ 65536) × (dense ≤ 65536) × (across ≤ 65536) × (count ≤ 65536) × (dim ≤ 294912) ⌝ }
+    requires { ⌜ (at ≤ 65536) × (dense ≤ 65536) × (across ≤ 65536) × (count ≤ 65536) × (dim ≤ mostDim) ⌝ }
     ensures { λ _. ⌜ Passed (place at dense across) (Below count segments) (weighedAt (now (x .entry)) 0 dim (now (starts .entry)) (now (rows .entry)) (now (weights .entry))) (now (out .entry)) (now (out .exit)) ⌝ }
 {
     let mut here = at;
