@@ -1,4 +1,4 @@
-// Each stores its one or two floats in a column of zeros.
+// Each stores one float in the column.
 use admittance::inner::stores::value;
 use elements::inner::power::balance_row;
 use interface::Bound;
