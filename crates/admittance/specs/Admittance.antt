@@ -15,7 +15,7 @@ use Rattle.kkt.specs.Kkt.{kkt_row}
 use Rattle.interface.specs.declared.GB.{GB}
 use Rattle.interface.specs.declared.GB.TheVariants.{Conductance, Susceptance}
 use Rattle.admittance.specs.Stores.{Store, plus}
-use Rattle.admittance.specs.Series.{Slope, series}
+use Rattle.admittance.specs.Series.{series}
 
 -- gs is in A as -gs, in the active balance; bs as it is, in the reactive one
 abbrev pub shunt_row : GB → ℕ → RowName

@@ -1,2 +1,4 @@
 // The columns by a bus's shunt and by a branch's series admittance. Both stand in A: an entry of d_a lands at its row and at its column.
+#![tactic(auto)]
+
 pub mod inner;

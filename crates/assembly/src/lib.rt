@@ -1,2 +1,4 @@
 // The writers of A.
+#![tactic(auto)]
+
 pub mod inner;

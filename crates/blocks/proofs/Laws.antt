@@ -1,5 +1,5 @@
 -- What the loops over the records ask. Assumes nothing.
-use Prim.Native.Nat.{ℕ, ◌+◌, ◌<◌, ◌≤◌, ◌^◌}
+use Prim.Native.Nat.{ℕ, ◌+◌, ◌<◌, ◌^◌}
 use mathlib.Core.Path.{◌≡◌, refl, sym, ap₂, ◌∙◌}
 use mathlib.Core.Bool.{Bool}
 use mathlib.Core.List.{List}
@@ -7,7 +7,7 @@ use native.Mathlib.Omega.{arith}
 use lib.Ieee.{Float, binary64, mul}
 use Rattle.lists.specs.UpTo.{up_to, sum, bit, count}
 use Rattle.lists.specs.Entries.{Entry}
-use Rattle.lists.proofs.Sums.{sum_mono, sum-next}
+use Rattle.lists.proofs.Sums.{sum-next}
 use Rattle.records.specs.AcNetwork.{AcNetwork}
 use Rattle.numbering.specs.Numbering.{column_number}
 use Rattle.numbering.specs.Layout.{nvar_of}

@@ -1,5 +1,5 @@
 // As they are, or as rows of their cone.
-pub mod bounds;
+pub mod bounded;
 pub mod cones;
 pub mod diagonal;
 pub mod ohm;

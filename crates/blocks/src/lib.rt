@@ -1,8 +1,10 @@
 // The rows of each block: of one kind, for all its records.
+#![tactic(auto)]
+
 pub mod inner;
 
 // The kinds of rows that bound one thing each: a voltage, a dispatch, an angle.
-#[derive(Drop)]
+#[derive(Clone, Copy)]
 pub enum BoundKind {
     Wub,
     Wlb,

@@ -1,8 +1,10 @@
 // The rows that bound a voltage, a dispatch, an angle or a flow, and the segments of costs: their right sides.
+#![tactic(auto)]
+
 pub mod inner;
 
 // Whether the row's bound is active, and the row's right side.
-#[derive(Drop)]
+#[derive(Clone, Copy)]
 pub struct Side {
     pub on: bool,
     pub rhs: f64,

@@ -1,8 +1,10 @@
 // A branch as its record says it: the struct of five floats, whether its angle rows have entries, its buses, and its four Ohm rows.
+#![tactic(auto)]
+
 pub mod inner;
 
 // The series admittance of a branch and the products of its tap: tr = tap cosine, ti = tap sine, tm2 = tap tap.
-#[derive(Drop)]
+#[derive(Clone, Copy)]
 pub struct Series {
     pub g: f64,
     pub b: f64,
@@ -12,7 +14,7 @@ pub struct Series {
 }
 
 // Coefficients in the four Ohm rows of a branch.
-#[derive(Drop)]
+#[derive(Clone, Copy)]
 pub struct Products {
     pub pf: f64,
     pub qf: f64,

@@ -1,2 +1,4 @@
 // The bus columns of A in linear time.
+#![tactic(auto)]
+
 pub mod inner;

@@ -1,4 +1,6 @@
 // The columns of the KKT system by parameter.
+#![tactic(auto)]
+
 ghost use Rattle.std.specs.Prelude.{◌≡◌, length};
 ghost use Rattle.refusals.specs.Refusals.{written_if, left_in};
 ghost use Rattle.records.specs.Network.{network_of};

@@ -1,8 +1,8 @@
 -- The table of results, and the cells of a pass in it. Assumes nothing.
 use Prim.Native.Nat.{ℕ, zero, suc, ◌+◌, ◌*◌, ◌-◌, ◌/◌, ◌%◌, ◌≤◌, ◌<◌}
-use mathlib.Core.Path.{◌≡◌, refl, sym, ap, ◌∙◌}
+use mathlib.Core.Path.{◌≡◌, sym, ap, ◌∙◌}
 use mathlib.Core.Logic.{⊎_elim}
-use mathlib.Core.List.{List, [], ◌∷◌, ◌++◌}
+use mathlib.Core.List.{List, ◌++◌}
 use native.Mathlib.Nat.{mul-le-mul_right, suc-mul, zero-mul, mul-zero, mul-one, not-suc-le-zero, le_of_suc-le-suc, eq-or-lt_of_le, div-add-mod', mod-lt, div-lt_iff_lt-mul}
 use native.Mathlib.Decide.{dec_lt}
 use native.Mathlib.Omega.{arith}
@@ -11,7 +11,7 @@ use lib.Seq.{get_or-append-add, ext_get_or}
 use lib.Ieee.{Float, binary64, nan, mul}
 use Rattle.lists.specs.UpTo.{up_to, each, listed}
 use Rattle.lists.proofs.Listed.{listed-length, listed_at}
-use Rattle.weighing.specs.Passes.{place, Below, Spread}
+use Rattle.weighing.specs.Passes.{place, Spread}
 use Rattle.combination.specs.Combination.{table}
 
 -- one place, one item and column

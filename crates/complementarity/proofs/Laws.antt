@@ -33,7 +33,7 @@ dot x a (e ∷ es) = dot x (add binary64 a (mul binary64 e.val (get_or x e.col n
 sum-dot : (G : AcNetwork Float) (x : List Float) (a : Float) (ts : List Term) → sum_of G x a ts ≡ dot x a (map (λ t. entry 0 (column_number G t.col) t.coef) ts)
 unfolding sum_of dot
 sum-dot G x a [] = refl
-sum-dot G x a (t ∷ ts) = sum-dot G x _ ts
+sum-dot G x a (t ∷ ts) = sum-dot G x (add binary64 a (mul binary64 t.coef (get_or x (column_number G t.col) nan))) ts
 
 line-dot : (x : List Float) (l : Line) → dot x (neg zero64) (line_at 0 (λ a. a) l) ≡ line_sum x l
 unfolding dot line_at line_sum

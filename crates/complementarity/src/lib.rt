@@ -1,8 +1,10 @@
 // What a row or a second-order cone of the program gives of the KKT matrix.
+#![tactic(auto)]
+
 pub mod inner;
 
 // A float for each row of a cone.
-#[derive(Drop)]
+#[derive(Clone, Copy)]
 pub struct Quad {
     pub a: f64,
     pub b: f64,

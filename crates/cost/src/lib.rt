@@ -1,2 +1,4 @@
 // What the generators' power costs.
+#![tactic(auto)]
+
 pub mod inner;

@@ -9,7 +9,7 @@ use native.Mathlib.Decide.{ℕ_discrete, dec_lt}
 use lib.Dec.{ltb}
 use lib.Ieee.{Float, binary64, neg, mul}
 use borrow.Author.Tests.{ltb-true, ltb-false}
-use Rattle.lists.specs.UpTo.{up_to, each, when, sum, bit}
+use Rattle.lists.specs.UpTo.{each, when, bit}
 use Rattle.lists.specs.Entries.{Entry, entry, turned, times}
 use Rattle.lists.proofs.Sums.{sum_mono, sum-next}
 use Rattle.lists.proofs.Ascending.{Asc, asc_join, times-append, times-turned}
@@ -17,7 +17,7 @@ use Rattle.lists.proofs.Zones.{Zone, zone_nil, ◌next◌, zone_fit, zone_each, 
 use Rattle.ring.specs.Ops.{rounded}
 use Rattle.records.specs.AcNetwork.{AcNetwork}
 use Rattle.numbering.specs.Numbering.{nvar, ncon, n_eq, column_key, column_number, row_number}
-use Rattle.numbering.proofs.Numbers.{column-number, row_number_lem, ncon-number, numbers, HasColumn, column-below, column-rises, row_below}
+use Rattle.numbering.proofs.Numbers.{column-number, numbers, HasColumn, column-below, column-rises, row_below}
 use Rattle.rows.specs.Rows.{Coefficient, Constant, constant, constant64, minus_one, minus_half, half, Cell, cell, plain, hits, single, ends, cells, terms}
 use Rattle.rows.specs.Rows as Rows
 use Rattle.rows.specs.Program.{equalities, inequalities, thermal_from, thermal_to, second_order, every_row, quadratic}

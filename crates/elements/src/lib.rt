@@ -1,4 +1,6 @@
 // Which parameters and operands SOCWR has, over how many elements each ranges, the ids of elements, the unit scale.
+#![tactic(auto)]
+
 ghost use Rattle.std.specs.Prelude.{◌≡◌};
 ghost use Rattle.refusals.specs.Refusals.{written_if};
 ghost use Rattle.records.specs.Network.{network_of};
@@ -15,7 +17,7 @@ use refusals::{Checked, Refusal, Written, is_refused, or_else, refuse_unless, wr
 pub mod inner;
 
 // An element's own number in the network, as its record says it; a constraint's is its index.
-#[derive(Drop)]
+#[derive(Clone, Copy)]
 pub enum ElementId {
     Bus(u32),
     Branch(u32),
@@ -23,7 +25,7 @@ pub enum ElementId {
     Constraint(u64),
 }
 
-#[derive(Drop)]
+#[derive(Clone, Copy)]
 pub enum IdAnswer {
     Id(ElementId),
     Refused(Refusal),

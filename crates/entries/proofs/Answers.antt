@@ -17,7 +17,7 @@ use Rattle.refusals.specs.declared.Checked.{Checked}
 use Rattle.refusals.specs.declared.Checked.TheVariants.{Accepted}
 use Rattle.refusals.specs.declared.Written.{Written}
 use Rattle.refusals.specs.declared.Written.TheVariants as Written
-use Rattle.refusals.proofs.Laws.{or_else_refused, or_else_accepted, accepted-first, passed, held, has_room, left-written, left-refused, count-written, count_any}
+use Rattle.refusals.proofs.Laws.{or_else_refused, or_else_accepted, accepted-first, held, has_room, left-written, left-refused, count-written, count_any}
 use Rattle.records.specs.AcNetwork.{AcNetwork}
 use Rattle.records.proofs.Sound.{sound}
 use Rattle.numbering.specs.Laid.{net_of, Laid}

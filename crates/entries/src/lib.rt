@@ -1,4 +1,6 @@
 // The entries of the KKT matrix, written to three lent lists.
+#![tactic(auto)]
+
 mod whole;
 
 ghost use Rattle.std.specs.Prelude.{◌≡◌, length};

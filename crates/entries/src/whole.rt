@@ -11,7 +11,7 @@ ghost use Rattle.numbering.specs.Laid.{net_of, Laid};
 
 use balance::inner::sorted::balance_rows;
 use blocks::BoundKind;
-use blocks::inner::bounds::bound_rows;
+use blocks::inner::bounded::bound_rows;
 use blocks::inner::cones::{jabr_rows, thermal_rows};
 use blocks::inner::diagonal::put_quadratic;
 use blocks::inner::ohm::ohm_rows;

@@ -10,7 +10,7 @@ use borrow.Author.Tests.{ne_eqb, eq-eqb, le-leb}
 use Rattle.lists.specs.UpTo.{up_to, all}
 use Rattle.lists.proofs.UpTo.{up_to-same}
 use Rattle.lists.proofs.Listed.{listed_at, listed-length}
-use Rattle.refusals.specs.Refusals.{◌or_else◌, refuse_unless}
+use Rattle.refusals.specs.Refusals.{refuse_unless, ◌or_else◌}
 use Rattle.refusals.specs.declared.Checked.TheVariants.{Accepted}
 use Rattle.refusals.proofs.Laws.{held}
 use Rattle.records.specs.Bytes.{le16, le32, le64}

@@ -3,7 +3,7 @@ use mathlib.Core.Path.{◌≡◌, refl}
 use native.Mathlib.Omega.{arith}
 use lib.Ieee.{of_bits, to_bits, neg, mul, div, add, sub, ne, eq, le, lt}
 use Rattle.lists.specs.UpTo.{up_to}
-use Rattle.refusals.specs.Refusals.{◌or_else◌, refuse_unless}
+use Rattle.refusals.specs.Refusals.{refuse_unless, ◌or_else◌}
 use Rattle.refusals.specs.declared.Checked.TheVariants.{Refused}
 use Rattle.refusals.specs.declared.Refusal.TheVariants.{CountTooLarge}
 use Rattle.records.specs.Bytes.{le16, le32, le64}

@@ -1,4 +1,6 @@
 // The records that program `layout` is handed: their counts, their layout, and its blocks of rows.
+#![tactic(auto)]
+
 ghost use Rattle.std.specs.Prelude.{◌≡◌, ◌+◌, ◌*◌, ◌≤◌, length};
 ghost use Rattle.numbering.specs.Lookups.{layout_number, layout_value};
 ghost use Rattle.input.specs.Input.{run_of, CountsOf, input_layout, first_row, row_count};
@@ -8,7 +10,7 @@ use numbering::layout::refused;
 use numbering::{LayoutAnswer, Lookup, SocWrLayout};
 use refusals::{Refusal, is_refused, number_of, value_of};
 
-#[derive(Drop)]
+#[derive(Clone, Copy)]
 pub struct Counts {
     pub n: usize,
     pub m: usize,

@@ -6,25 +6,25 @@ use crate::{
     Axis, Bound, CostTerm, End, GB, Mode, Operand, Parameter, Power, TapKind, VoltageKind,
 };
 
-#[derive(Drop)]
+#[derive(Clone, Copy)]
 pub enum ParameterCode {
     Names(Parameter),
     NamesNothing,
 }
 
-#[derive(Drop)]
+#[derive(Clone, Copy)]
 pub enum OperandCode {
     Names(Operand),
     NamesNothing,
 }
 
-#[derive(Drop)]
+#[derive(Clone, Copy)]
 pub enum AxisCode {
     Names(Axis),
     NamesNothing,
 }
 
-#[derive(Drop)]
+#[derive(Clone, Copy)]
 pub enum ModeCode {
     Names(Mode),
     NamesNothing,

@@ -1,4 +1,6 @@
 // The vocabulary of a sensitivity: what it is taken of, what it is taken by, and how it is solved.
+#![tactic(auto)]
+
 mod axes;
 mod codes;
 pub mod inner;
@@ -13,21 +15,21 @@ pub use scale::served_unit_scale;
 pub use selector::selector_new;
 
 // Active or reactive power.
-#[derive(Drop)]
+#[derive(Clone, Copy)]
 pub enum Power {
     Active,
     Reactive,
 }
 
 // Which end of a branch a flow is measured at.
-#[derive(Drop)]
+#[derive(Clone, Copy)]
 pub enum End {
     From,
     To,
 }
 
 // How a voltage is represented: polar, or the lift to products of voltages.
-#[derive(Drop)]
+#[derive(Clone, Copy)]
 pub enum VoltageKind {
     Magnitude,
     Angle,
@@ -37,35 +39,35 @@ pub enum VoltageKind {
 }
 
 // Which coefficient of a generator's cost.
-#[derive(Drop)]
+#[derive(Clone, Copy)]
 pub enum CostTerm {
     Quadratic,
     Linear,
 }
 
 // The real and the imaginary part of an admittance.
-#[derive(Drop)]
+#[derive(Clone, Copy)]
 pub enum GB {
     Conductance,
     Susceptance,
 }
 
 // A lower or an upper limit.
-#[derive(Drop)]
+#[derive(Clone, Copy)]
 pub enum Bound {
     Min,
     Max,
 }
 
 // Tap ratio or phase shift of a transformer.
-#[derive(Drop)]
+#[derive(Clone, Copy)]
 pub enum TapKind {
     Ratio,
     PhaseShift,
 }
 
 // What a sensitivity is taken of.
-#[derive(Drop)]
+#[derive(Clone, Copy)]
 pub enum Operand {
     Price(Power),
     Dispatch(Power),
@@ -74,7 +76,7 @@ pub enum Operand {
 }
 
 // What a sensitivity is taken by.
-#[derive(Drop)]
+#[derive(Clone, Copy)]
 pub enum Parameter {
     Demand(Power),
     Cost(CostTerm),
@@ -89,7 +91,7 @@ pub enum Parameter {
 }
 
 // The elements that an operand or a parameter ranges over.
-#[derive(Drop)]
+#[derive(Clone, Copy)]
 pub enum Axis {
     Bus,
     Branch,
@@ -98,7 +100,7 @@ pub enum Axis {
 }
 
 // Which linear systems are solved.
-#[derive(Drop)]
+#[derive(Clone, Copy)]
 pub enum Mode {
     Forward,
     Adjoint,
@@ -106,7 +108,7 @@ pub enum Mode {
 }
 
 // A selector's answer, its lists being lent: how many items it has, and the sign of what is read.
-#[derive(Drop)]
+#[derive(Clone, Copy)]
 pub enum Selected {
     Items { count: u64, sign: f64 },
     Refused(Refusal),

@@ -18,7 +18,6 @@ use Rattle.interface.specs.declared.codes.AxisCode.TheVariants as AxisCode
 use Rattle.interface.specs.Selectors.{selected_number, selected_value, selected_sign}
 use Rattle.elements.specs.Ids.{element_id, id_check, id_if, id_number, id_value}
 use Rattle.interface.specs.declared.Selected.{Selected}
-use Rattle.elements.specs.declared.ElementId.{ElementId}
 use Rattle.elements.specs.declared.ElementId.TheVariants.{Constraint}
 use Rattle.elements.specs.declared.IdAnswer.{IdAnswer}
 use Rattle.kernel.specs.declared.Answer.{Answer}

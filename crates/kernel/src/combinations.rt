@@ -45,8 +45,7 @@ fn scale_at(operand: OperandCode, parameter: ParameterCode, base: f64) -> readin
     }
 }
 
-#[unsafe(no_mangle)]
-pub extern "C" fn socwr_unit_scale(operand: u64, parameter: u64, base: f64) -> Scalar
+pub fn socwr_unit_scale(operand: u64, parameter: u64, base: f64) -> Scalar
     ensures { ScalarAnswer (scale_at (operand_at operand) (parameter_at parameter) base) result }
 {
     let o = operand_at(operand);
@@ -55,8 +54,7 @@ pub extern "C" fn socwr_unit_scale(operand: u64, parameter: u64, base: f64) -> S
 }
 
 // The caller gives the sign where it combines, so that here any will do.
-#[unsafe(no_mangle)]
-pub extern "C" fn socwr_selector_new(
+pub fn socwr_selector_new(
     from_rows: &[u32],
     from_elements: &[u32],
     starts: &mut [u32],
@@ -82,15 +80,13 @@ pub extern "C" fn socwr_selector_new(
     items_answer(a)
 }
 
-#[unsafe(no_mangle)]
-pub extern "C" fn socwr_max_abs(matrix: &[f64]) -> Scalar
+pub fn socwr_max_abs(matrix: &[f64]) -> Scalar
     ensures { ScalarAnswer (Value (max_abs matrix.now)) result }
 {
     scalar_answer(reading::Scalar::Value(residual::max_abs(matrix)))
 }
 
-#[unsafe(no_mangle)]
-pub extern "C" fn socwr_residual(
+pub fn socwr_residual(
     dim: u64,
     columns: u64,
     rows: &[u32],
@@ -118,8 +114,7 @@ pub extern "C" fn socwr_residual(
     written_answer(w)
 }
 
-#[unsafe(no_mangle)]
-pub extern "C" fn socwr_transpose(
+pub fn socwr_transpose(
     dim: u64,
     rows: &[u32],
     cols: &[u32],
@@ -145,8 +140,7 @@ pub extern "C" fn socwr_transpose(
     written_answer(w)
 }
 
-#[unsafe(no_mangle)]
-pub extern "C" fn socwr_selector_matrix(
+pub fn socwr_selector_matrix(
     dim: u64,
     starts: &[u32],
     rows: &[u32],
@@ -185,8 +179,7 @@ fn combine_at(
     }
 }
 
-#[unsafe(no_mangle)]
-pub extern "C" fn socwr_combine(
+pub fn socwr_combine(
     mode: u64,
     dim: u64,
     columns: u64,

@@ -10,8 +10,7 @@ ghost use Rattle.kernel.specs.Answers.{WrittenAnswer};
 
 use crate::{Answer, written_answer};
 
-#[unsafe(no_mangle)]
-pub extern "C" fn socwr_kkt_entries(
+pub fn socwr_kkt_entries(
     n: u64,
     m: u64,
     k: u64,

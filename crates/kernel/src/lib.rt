@@ -1,4 +1,6 @@
 // The entries for callers in C, one module for each part of the header include/socwr.h. They only pass on what the libraries answer.
+#![tactic(auto)]
+
 ghost use Rattle.std.specs.Prelude.{◌≡◌};
 ghost use Rattle.refusals.specs.Refusals.{checked_number, checked_value, written_number, written_value};
 ghost use Rattle.reading.specs.Reading.{scalar_number, scalar_value, scalar_result};
@@ -16,7 +18,7 @@ pub mod sens;
 
 // Number 0 and the answer, or the number of the cause and the value returned with it.
 #[repr(C)]
-#[derive(Drop)]
+#[derive(Clone, Copy)]
 pub struct Answer {
     pub number: u64,
     pub value: u64,
@@ -24,7 +26,7 @@ pub struct Answer {
 
 // The same with a number as the answer, 0.0 on a refusal.
 #[repr(C)]
-#[derive(Drop)]
+#[derive(Clone, Copy)]
 pub struct Scalar {
     pub number: u64,
     pub value: u64,

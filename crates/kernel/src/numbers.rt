@@ -22,7 +22,7 @@ use numbering::{Key, Lookup, SocWrLayout};
 use refusals::{Checked, is_refused, number_of, value_of};
 
 #[repr(C)]
-#[derive(Drop)]
+#[derive(Clone, Copy)]
 pub struct Sizes {
     pub number: u64,
     pub value: u64,
@@ -35,7 +35,7 @@ pub struct Sizes {
 }
 
 #[repr(C)]
-#[derive(Drop)]
+#[derive(Clone, Copy)]
 pub struct Name {
     pub number: u64,
     pub value: u64,
@@ -44,8 +44,7 @@ pub struct Name {
     pub place: u64,
 }
 
-#[unsafe(no_mangle)]
-pub extern "C" fn socwr_check_records(n: u64, m: u64, k: u64, s: u64, records: &[u8]) -> Answer
+pub fn socwr_check_records(n: u64, m: u64, k: u64, s: u64, records: &[u8]) -> Answer
     ensures { CheckedAnswer (check_of n m k s records.now) result }
 {
     checked_answer(record_check::check_records(
@@ -85,8 +84,7 @@ fn no_sizes(c: Checked) -> Sizes
     }
 }
 
-#[unsafe(no_mangle)]
-pub extern "C" fn socwr_layout_new(n: u64, m: u64, k: u64, s: u64, records: &[u8]) -> Sizes
+pub fn socwr_layout_new(n: u64, m: u64, k: u64, s: u64, records: &[u8]) -> Sizes
     ensures { SizesAnswer (new_layout n m k s records.now) (check_of n m k s records.now) (network_of n m k s records.now) result }
 {
     let checked = check_layout(n as usize, m as usize, k as usize, s as usize, records, 0);
@@ -126,8 +124,7 @@ fn lookup_answer(l: Lookup) -> Answer
     }
 }
 
-#[unsafe(no_mangle)]
-pub extern "C" fn socwr_column_number(
+pub fn socwr_column_number(
     n: u64,
     m: u64,
     k: u64,
@@ -150,8 +147,7 @@ pub extern "C" fn socwr_column_number(
     ))
 }
 
-#[unsafe(no_mangle)]
-pub extern "C" fn socwr_row_number(
+pub fn socwr_row_number(
     n: u64,
     m: u64,
     k: u64,
@@ -249,15 +245,7 @@ fn name_of(number: u64, value: u64, x: Key) -> Name
     }
 }
 
-#[unsafe(no_mangle)]
-pub extern "C" fn socwr_column_name(
-    n: u64,
-    m: u64,
-    k: u64,
-    s: u64,
-    records: &[u8],
-    number: u64,
-) -> Name
+pub fn socwr_column_name(n: u64, m: u64, k: u64, s: u64, records: &[u8], number: u64) -> Name
     ensures { NameAnswer (column_answer_number (column_named n m k s records.now number)) (column_answer_value (column_named n m k s records.now number)) (column_answer_key (column_named n m k s records.now number)) result }
 {
     let a = named::column_name(
@@ -275,15 +263,7 @@ pub extern "C" fn socwr_column_name(
     )
 }
 
-#[unsafe(no_mangle)]
-pub extern "C" fn socwr_row_name(
-    n: u64,
-    m: u64,
-    k: u64,
-    s: u64,
-    records: &[u8],
-    number: u64,
-) -> Name
+pub fn socwr_row_name(n: u64, m: u64, k: u64, s: u64, records: &[u8], number: u64) -> Name
     ensures { NameAnswer (row_answer_number (row_named n m k s records.now number)) (row_answer_value (row_named n m k s records.now number)) (row_answer_key (row_named n m k s records.now number)) result }
 {
     let a = named::row_name(
@@ -297,15 +277,7 @@ pub extern "C" fn socwr_row_name(
     name_of(row_answer_number(a), row_answer_value(a), row_answer_key(a))
 }
 
-#[unsafe(no_mangle)]
-pub extern "C" fn socwr_cones(
-    n: u64,
-    m: u64,
-    k: u64,
-    s: u64,
-    records: &[u8],
-    lengths: &mut [u32],
-) -> Answer
+pub fn socwr_cones(n: u64, m: u64, k: u64, s: u64, records: &[u8], lengths: &mut [u32]) -> Answer
     ensures written_answer { WrittenAnswer (written_if (cones_check (check_of n m k s records.now) (layout_of (network_of n m k s records.now)) lengths.old) (cone_count (layout_of (network_of n m k s records.now)))) result }
     ensures lengths_after { lengths.new ≡ left_in (cones_check (check_of n m k s records.now) (layout_of (network_of n m k s records.now)) lengths.old) (cone_lengths (network_of n m k s records.now)) lengths.old }
 {

@@ -12,8 +12,7 @@ ghost use Rattle.kernel.specs.Answers.{WrittenAnswer};
 
 use crate::{Answer, written_answer};
 
-#[unsafe(no_mangle)]
-pub extern "C" fn socwr_program_p(
+pub fn socwr_program_p(
     n: u64,
     m: u64,
     k: u64,
@@ -34,15 +33,7 @@ pub extern "C" fn socwr_program_p(
     written_answer(w)
 }
 
-#[unsafe(no_mangle)]
-pub extern "C" fn socwr_program_q(
-    n: u64,
-    m: u64,
-    k: u64,
-    s: u64,
-    records: &[u8],
-    q: &mut [f64],
-) -> Answer
+pub fn socwr_program_q(n: u64, m: u64, k: u64, s: u64, records: &[u8], q: &mut [f64]) -> Answer
     ensures written_answer { WrittenAnswer (written_if (floats_check (check_of n m k s records.now) (linear (network_of n m k s records.now)) q.old) (length (linear (network_of n m k s records.now)))) result }
     ensures q_after { q.new ≡ left_in (floats_check (check_of n m k s records.now) (linear (network_of n m k s records.now)) q.old) (linear (network_of n m k s records.now)) q.old }
 {
@@ -50,8 +41,7 @@ pub extern "C" fn socwr_program_q(
     written_answer(w)
 }
 
-#[unsafe(no_mangle)]
-pub extern "C" fn socwr_program_a(
+pub fn socwr_program_a(
     n: u64,
     m: u64,
     k: u64,
@@ -72,15 +62,7 @@ pub extern "C" fn socwr_program_a(
     written_answer(w)
 }
 
-#[unsafe(no_mangle)]
-pub extern "C" fn socwr_program_b(
-    n: u64,
-    m: u64,
-    k: u64,
-    s: u64,
-    records: &[u8],
-    b: &mut [f64],
-) -> Answer
+pub fn socwr_program_b(n: u64, m: u64, k: u64, s: u64, records: &[u8], b: &mut [f64]) -> Answer
     ensures written_answer { WrittenAnswer (written_if (floats_check (check_of n m k s records.now) (right_side (network_of n m k s records.now)) b.old) (length (right_side (network_of n m k s records.now)))) result }
     ensures b_after { b.new ≡ left_in (floats_check (check_of n m k s records.now) (right_side (network_of n m k s records.now)) b.old) (right_side (network_of n m k s records.now)) b.old }
 {

@@ -8,8 +8,7 @@ ghost use Rattle.kernel.specs.Scalars.{ScalarAnswer};
 
 use crate::{Answer, Scalar, checked_answer, scalar_answer, written_answer};
 
-#[unsafe(no_mangle)]
-pub extern "C" fn socwr_reading_check(
+pub fn socwr_reading_check(
     n: u64,
     m: u64,
     k: u64,
@@ -25,8 +24,7 @@ pub extern "C" fn socwr_reading_check(
     ))
 }
 
-#[unsafe(no_mangle)]
-pub extern "C" fn socwr_prices(
+pub fn socwr_prices(
     n: u64,
     m: u64,
     k: u64,
@@ -43,8 +41,7 @@ pub extern "C" fn socwr_prices(
     ))
 }
 
-#[unsafe(no_mangle)]
-pub extern "C" fn socwr_objective(
+pub fn socwr_objective(
     n: u64,
     m: u64,
     k: u64,

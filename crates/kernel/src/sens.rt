@@ -22,7 +22,7 @@ use interface::{
 use refusals::{Refusal, number_of, or_else, refuse_unless, value_of};
 
 #[repr(C)]
-#[derive(Drop)]
+#[derive(Clone, Copy)]
 pub struct Selector {
     pub number: u64,
     pub value: u64,
@@ -134,15 +134,7 @@ fn selector_answer(a: Selected) -> Selector
     }
 }
 
-#[unsafe(no_mangle)]
-pub extern "C" fn socwr_parameter_len(
-    n: u64,
-    m: u64,
-    k: u64,
-    s: u64,
-    records: &[u8],
-    parameter: u64,
-) -> Answer
+pub fn socwr_parameter_len(n: u64, m: u64, k: u64, s: u64, records: &[u8], parameter: u64) -> Answer
     ensures { WrittenAnswer (written_if (parameter_len_check n m k s records.now (parameter_named (parameter_at parameter))) (parameter_len n m k (parameter_named (parameter_at parameter)))) result }
 {
     let p = parameter_named(parameter);
@@ -151,15 +143,7 @@ pub extern "C" fn socwr_parameter_len(
     ))
 }
 
-#[unsafe(no_mangle)]
-pub extern "C" fn socwr_operand_len(
-    n: u64,
-    m: u64,
-    k: u64,
-    s: u64,
-    records: &[u8],
-    operand: u64,
-) -> Answer
+pub fn socwr_operand_len(n: u64, m: u64, k: u64, s: u64, records: &[u8], operand: u64) -> Answer
     ensures { WrittenAnswer (written_if (operand_len_check n m k s records.now (operand_named (operand_at operand))) (operand_len n m k (operand_named (operand_at operand)))) result }
 {
     let o = operand_named(operand);
@@ -168,8 +152,7 @@ pub extern "C" fn socwr_operand_len(
     ))
 }
 
-#[unsafe(no_mangle)]
-pub extern "C" fn socwr_parameter_jacobian(
+pub fn socwr_parameter_jacobian(
     n: u64,
     m: u64,
     k: u64,
@@ -199,8 +182,7 @@ pub extern "C" fn socwr_parameter_jacobian(
     ))
 }
 
-#[unsafe(no_mangle)]
-pub extern "C" fn socwr_operand_selector(
+pub fn socwr_operand_selector(
     n: u64,
     m: u64,
     k: u64,
@@ -262,8 +244,7 @@ fn id_at(
     }
 }
 
-#[unsafe(no_mangle)]
-pub extern "C" fn socwr_element_id(
+pub fn socwr_element_id(
     n: u64,
     m: u64,
     k: u64,

@@ -1,1 +1,2 @@
 // The KKT entries.
+#![tactic(auto)]

@@ -5,13 +5,13 @@ use mathlib.Core.Bool.{Bool, true, false, ◌&&◌, cond}
 use mathlib.Core.List.{List, [], ◌∷◌, ◌++◌, map}
 use native.Mathlib.Omega.{arith}
 use lib.Dec.{ltb}
-use lib.Ieee.{Float, binary64, neg, ne, mul}
+use lib.Ieee.{Float, neg, ne}
 use borrow.Author.Tests.{lt-ltb, le-ltb}
 use Rattle.lists.specs.UpTo.{when, sum, bit, count}
 use Rattle.lists.specs.Entries.{entry}
 use Rattle.lists.proofs.Sums.{sum_room}
 use Rattle.records.specs.AcNetwork.{AcNetwork}
-use Rattle.records.specs.Fields.{voltage_bound_of, vm_min_of, vm_max_of, capability_of, pmin_of, pmax_of, qmin_of, qmax_of, angled_of, tan_angmin_of, tan_angmax_of}
+use Rattle.records.specs.Fields.{voltage_bound_of, capability_of, angled_of, tan_angmin_of, tan_angmax_of}
 use Rattle.numbering.specs.Numbering.{nvar, ncon, column_number, row_number}
 use Rattle.numbering.specs.Layout.{layout_column, layout_row}
 use Rattle.numbering.specs.Laid.{net_of, Laid}

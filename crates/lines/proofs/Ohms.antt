@@ -2,7 +2,7 @@
 use Prim.Native.Nat.{ℕ, ◌+◌, ◌<◌}
 use mathlib.Core.Path.{◌≡◌, refl}
 use mathlib.Core.Bool.{Bool, true, false}
-use mathlib.Core.List.{List, [], ◌∷◌, ◌++◌, map, map-append, append_assoc}
+use mathlib.Core.List.{List, [], ◌∷◌, ◌++◌, map-append, append_assoc}
 use lib.Ieee.{Float, ne}
 use Rattle.lists.specs.UpTo.{when}
 use Rattle.lists.specs.Entries.{entry}

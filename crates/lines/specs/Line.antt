@@ -1,7 +1,7 @@
 -- Rows of the program that have at most two terms, as numbers: every row but those of the zero cone.
 use Rattle.std.specs.Prelude.{ℕ, ◌<◌, ◌≡◌, Bool, true, false, cond, List, [], ◌∷◌, ◌++◌, map, ltb, get_or, Float}
 use Rattle.std.specs.Float.{binary64, nan}
-use Rattle.std.specs.Float.Ieee.{neg, ne, add, sub, mul}
+use Rattle.std.specs.Float.Ieee.{neg, add, sub, mul}
 use Rattle.lists.specs.UpTo.{when}
 use Rattle.lists.specs.Entries.{Entry, entry}
 use Rattle.records.specs.AcNetwork.{AcNetwork}

@@ -1,8 +1,10 @@
 // The rows of the program but the balance rows: Ohm rows have at most four terms, the others at most two.
+#![tactic(auto)]
+
 pub mod inner;
 
 // A term: the column and the coefficient. The row has it where it is on.
-#[derive(Drop)]
+#[derive(Clone, Copy)]
 pub struct Spot {
     pub on: bool,
     pub col: u32,
@@ -10,7 +12,7 @@ pub struct Spot {
 }
 
 // A row: its number, its b and its terms by ascending column.
-#[derive(Drop)]
+#[derive(Clone, Copy)]
 pub struct Line {
     pub row: u32,
     pub rhs: f64,
@@ -19,7 +21,7 @@ pub struct Line {
 }
 
 // The rows of a second-order cone. One of three rows has its last row twice.
-#[derive(Drop)]
+#[derive(Clone, Copy)]
 pub struct Cone {
     pub a: Line,
     pub b: Line,
@@ -28,7 +30,7 @@ pub struct Cone {
 }
 
 // An Ohm row: its number, its columns, and the coefficients of w, wr and wi. That of the flow is 1.
-#[derive(Drop)]
+#[derive(Clone, Copy)]
 pub struct Ohm {
     pub row: u32,
     pub w: u32,

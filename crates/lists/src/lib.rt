@@ -1,2 +1,4 @@
 // Lists that a caller lends: definitions, laws, and stores.
+#![tactic(auto)]
+
 pub mod inner;

@@ -9,7 +9,7 @@ use Rattle.refusals.specs.Refusals.{◌or_else◌, refuse_unless}
 use Rattle.refusals.specs.Order.{sooner, by_order}
 use Rattle.refusals.specs.declared.Refusal.TheVariants.{PastEnd}
 use Rattle.refusals.specs.declared.Checked.{Checked}
-use Rattle.refusals.proofs.Order.{InOrder, in_order, alone, next}
+use Rattle.refusals.proofs.Order.{in_order, alone, next}
 use Rattle.records.specs.Check.{check_of}
 use Rattle.records.specs.Network.{network_of}
 use Rattle.records.proofs.Order.{checked}

@@ -1,5 +1,5 @@
 -- The number of a name, on counts and records.
-use Rattle.std.specs.Prelude.{ℕ, Bool, true, false, cond, List, eqb, ltb, length}
+use Rattle.std.specs.Prelude.{ℕ, Bool, true, cond, List, eqb, ltb, length}
 use Rattle.refusals.specs.declared.Refusal.TheVariants.{PastEnd}
 use Rattle.records.specs.AcNetwork.{AcNetwork}
 use Rattle.records.specs.Network.{network_of}

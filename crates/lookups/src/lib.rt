@@ -1,2 +1,4 @@
 // The number of a name, on counts and records.
+#![tactic(auto)]
+
 pub mod numbers;

@@ -4,7 +4,7 @@ use Rattle.ring.specs.Ops.{Ops}
 use Rattle.rows.specs.declared.OhmRow.{OhmRow}
 use Rattle.rows.specs.declared.OhmRow.TheVariants.{Pf as pf, Qf as qf, Pt as pt, Qt as qt}
 use Rattle.records.specs.AcNetwork.{BranchData, AcNetwork}
-use Rattle.manual.specs.Matpower.{Complex, complex, Line, τ², scale, multiple, sf, st, sf_w, st_w, conj, ◌⊗◌, square}
+use Rattle.manual.specs.Matpower.{Complex, complex, Line, scale, multiple, sf, st, sf_w, st_w, conj, ◌⊗◌, square}
 use Rattle.numbering.specs.declared.ColumnName.{ColumnName}
 use Rattle.numbering.specs.declared.ColumnName.TheVariants.{W, Wr, Wi, Pf, Pt, Qf, Qt}
 

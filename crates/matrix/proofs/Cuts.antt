@@ -1,6 +1,6 @@
 -- What a row's terms have in a column. Assumes nothing.
-use Prim.Native.Nat.{ℕ, zero, suc, ◌+◌, ◌≤◌, ◌<◌}
-use mathlib.Core.Path.{◌≡◌, refl, sym, ap, ◌∙◌}
+use Prim.Native.Nat.{ℕ, zero, suc, ◌+◌, ◌<◌}
+use mathlib.Core.Path.{◌≡◌, refl, sym, ◌∙◌}
 use mathlib.Core.List.{List, [], ◌∷◌, ◌++◌, append_assoc, append-nil}
 use mathlib.Core.Bool.{Bool, true, false, ◌&&◌, cond}
 use lib.Dec.{eqb, ltb}
@@ -8,7 +8,7 @@ use lib.Ieee.{Float, ne, neg}
 use borrow.Author.Tests.{eqb-true}
 use Rattle.lists.specs.UpTo.{up_to, each, when}
 use Rattle.lists.specs.Entries.{Cell}
-use Rattle.lists.proofs.Each.{when_false, when-nil, when-swap, when-append, each_nil, each_ext, each-when, each_at, each_at', each-at-when, each-hit, each_group, each_three, each-four, when_pairs, when-order}
+use Rattle.lists.proofs.Each.{when_false, when-nil, when-swap, when-append, each_nil, each_ext, each_at, each-at-when, each-hit, each_group, each_three, each-four, when_pairs, when-order}
 use Rattle.ring.specs.Ops.{rounded}
 use Rattle.records.specs.AcNetwork.{AcNetwork}
 use Rattle.rows.specs.Branch.{branch_at}
@@ -16,11 +16,9 @@ use Rattle.records.proofs.Sound.{Sound}
 use Rattle.numbering.specs.Numbering.{column_key, row_number}
 use Rattle.numbering.specs.declared.ColumnName.{ColumnName}
 use Rattle.numbering.specs.declared.ColumnName.TheVariants.{Pg, Qg, W, Wr, Wi, Pf, Pt, Qf, Qt, CostOf}
-use Rattle.numbering.specs.declared.RowName.{RowName}
 use Rattle.numbering.specs.declared.RowName.TheVariants.{Pbal, Qbal, OhmPf, OhmQf, OhmPt, OhmQt, Wub, Wlb, Pgub, Pglb, Qgub, Qglb, Angub, Anglb, Segment, Jabr, Thermal}
 use Rattle.numbering.proofs.Numbers.{HasColumn}
-use Rattle.rows.specs.Rows.{Constant, one, minus_one, half, minus_half, constant64, zero64, Term, term, kept, w, wr, wi, ohm_value, flow_column, end_bus, ohm_row}
-use Rattle.rows.specs.declared.OhmRow.{OhmRow}
+use Rattle.rows.specs.Rows.{Constant, one, minus_one, half, minus_half, constant64, zero64, Term, kept, wr, wi, ohm_value}
 use Rattle.rows.specs.declared.OhmRow.TheVariants.{Pf as pf, Qf as qf, Pt as pt, Qt as qt}
 use Rattle.rows.specs.Program.{every_row}
 use Rattle.rows.proofs.Shape.{hit_terms, end_terms}

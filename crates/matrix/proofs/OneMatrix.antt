@@ -18,15 +18,14 @@ use Rattle.records.specs.AcNetwork.{AcNetwork}
 use Rattle.records.specs.Network.{network_of, Accepted}
 use Rattle.records.proofs.Sound.{Sound, sound}
 use Rattle.numbering.specs.Numbering.{nvar, ncon, column_at, column_number, row_number}
-use Rattle.numbering.specs.declared.RowName.{RowName}
 use Rattle.numbering.proofs.Numbers.{column-below}
 use Rattle.numbering.proofs.Names.{column-stands}
 use Rattle.numbering.proofs.EveryPoint.{column-there}
 use Rattle.rows.specs.Rows.{Term, terms}
-use Rattle.rows.specs.Program.{every_row, in_row, program, matrix}
+use Rattle.rows.specs.Program.{in_row, program, matrix}
 use Rattle.matrix.specs.Columns.{column_cells}
 use Rattle.matrix.specs.Law.{values_at, column_entries, Rising, stop, more, OneMatrix}
-use Rattle.matrix.proofs.Same.{All, none, also, all-terms, every_ext, select-every, column-at}
+use Rattle.matrix.proofs.Same.{All, also, all-terms, every_ext, select-every, column-at}
 use Rattle.matrix.proofs.Rises.{rises}
 
 -- the values of a column's cells in row r

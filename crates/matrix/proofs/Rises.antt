@@ -1,14 +1,14 @@
 -- The rows ascend in each column. Assumes nothing.
 use Prim.Native.Nat.{ℕ, zero, suc, ◌+◌, ◌*◌, ◌≤◌, ◌<◌}
-use mathlib.Core.Path.{◌≡◌, refl, sym, ap, ◌∙◌}
+use mathlib.Core.Path.{◌≡◌, refl, sym, ◌∙◌}
 use mathlib.Core.Bool.{Bool, true, false}
-use mathlib.Core.List.{List, [], ◌∷◌, ◌++◌}
+use mathlib.Core.List.{List, [], ◌++◌}
 use native.Mathlib.Omega.{arith}
 use lib.Dec.{eqb}
 use lib.Ieee.{Float, ne}
 use borrow.Author.Tests.{eqb-true}
-use Rattle.lists.specs.UpTo.{up_to, each, when, sum, bit, count}
-use Rattle.lists.specs.Entries.{Cell, cell}
+use Rattle.lists.specs.UpTo.{up_to, each, when}
+use Rattle.lists.specs.Entries.{Cell}
 use Rattle.lists.proofs.Sums.{sum_mono, sum-next}
 use Rattle.records.specs.AcNetwork.{AcNetwork}
 use Rattle.records.proofs.Sound.{Sound}

@@ -1,10 +1,9 @@
 -- A row's terms as joins of single terms. Assumes nothing.
 use Prim.Native.Nat.{ℕ, zero, suc}
-use mathlib.Core.Path.{◌≡◌, refl, sym, ◌∙◌}
-use mathlib.Core.List.{List, [], ◌∷◌, ◌++◌, append_assoc, append-nil}
-use lib.ListN.{get_or}
+use mathlib.Core.Path.{◌≡◌, refl}
+use mathlib.Core.List.{List, [], ◌∷◌, ◌++◌, append_assoc}
 use lib.Ieee.{Float, neg}
-use Rattle.lists.specs.UpTo.{each, when}
+use Rattle.lists.specs.UpTo.{when}
 use Rattle.records.specs.AcNetwork.{AcNetwork}
 use Rattle.rows.specs.Branch.{branch_at}
 use Rattle.numbering.specs.declared.ColumnName.{ColumnName}
@@ -12,7 +11,7 @@ use Rattle.numbering.specs.declared.ColumnName.TheVariants.{Pg, Qg, W, Wr, Wi, P
 use Rattle.numbering.specs.declared.RowName.{RowName}
 use Rattle.numbering.specs.declared.RowName.TheVariants.{Pbal, Qbal, OhmPf, OhmQf, OhmPt, OhmQt, Wub, Wlb, Pgub, Pglb, Qgub, Qglb, Angub, Anglb, Segment, Jabr, Thermal}
 use Rattle.ring.specs.Ops.{rounded}
-use Rattle.rows.specs.Rows.{Constant, one, minus_one, half, minus_half, constant64, Term, term, kept, terms, written, written_cell, single, cell, plain, constant, w, wr, wi, flow, ohm_value, flow_column, end_bus}
+use Rattle.rows.specs.Rows.{one, minus_one, half, minus_half, constant64, Term, term, kept, terms, w, wr, wi, ohm_value, flow_column, end_bus}
 use Rattle.rows.specs.declared.OhmRow.{OhmRow}
 use Rattle.rows.specs.declared.OhmRow.TheVariants.{Pf as pf, Qf as qf, Pt as pt, Qt as qt}
 use Rattle.rows.proofs.Shape.{hit_terms, end_terms, pbal-terms, qbal-terms, jabr-first, jabr-last, written-when}

@@ -1,5 +1,5 @@
 -- P, A, q and b as the lists that `ProgramBuilder::finish` makes of them.
-use Rattle.std.specs.Prelude.{ℕ, List, ◌++◌, Float}
+use Rattle.std.specs.Prelude.{List, ◌++◌, Float}
 use Rattle.lists.specs.UpTo.{each, listed, when}
 use Rattle.lists.specs.Entries.{Cell, select}
 use Rattle.records.specs.AcNetwork.{AcNetwork}

@@ -1,5 +1,5 @@
 -- Which layouts are in range, and what the layout of a network gives of its numbering. Assumes nothing.
-use Prim.Native.Nat.{ℕ, ◌+◌, ◌≤◌, ◌<◌}
+use Prim.Native.Nat.{ℕ, ◌+◌, ◌<◌}
 use mathlib.Core.Path.{◌≡◌, refl}
 use mathlib.Core.Bool.{Bool, true}
 use mathlib.Core.List.{List}
@@ -8,7 +8,7 @@ use borrow.Author.Tests.{leb-true, le-leb}
 use lib.Ieee.{Float}
 use Rattle.lists.specs.UpTo.{sum, bit, count}
 use Rattle.lists.proofs.Sums.{count-le, sum-next, sum_mono}
-use Rattle.refusals.specs.Refusals.{◌or_else◌, refuse_unless}
+use Rattle.refusals.specs.Refusals.{refuse_unless, ◌or_else◌}
 use Rattle.refusals.specs.declared.Checked.TheVariants.{Accepted}
 use Rattle.refusals.proofs.Laws.{or_else_accepted, test-held}
 use Rattle.records.specs.AcNetwork.{AcNetwork}

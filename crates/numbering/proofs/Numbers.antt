@@ -1,18 +1,14 @@
 -- Laws of the numbering, for all crates above: the number of each kind of name; every number below the end; layout and network agree.
 -- A number is the sum of the blocks before its own, so each is a sum of counts: the formulas of the Rust's `SocWrLayout`. Assumes nothing.
 use Prim.Native.Nat.{ℕ, ◌+◌, ◌*◌, ◌≤◌, ◌<◌}
-use mathlib.Core.Path.{◌≡◌, refl, sym, ap, ◌∙◌}
-use mathlib.Core.Bool.{Bool, true, false, false≢true}
-use mathlib.Core.List.{List}
+use mathlib.Core.Path.{◌≡◌, refl, ap}
+use mathlib.Core.Bool.{true, false, false≢true}
 use native.Mathlib.Omega.{arith}
-use lib.Ieee.{Float}
-use Rattle.lists.specs.UpTo.{up_to, sum, bit, count}
-use Rattle.lists.proofs.Sums.{count-le}
+use Rattle.lists.specs.UpTo.{sum, bit, count}
 use Rattle.records.specs.AcNetwork.{AcNetwork}
-use Rattle.numbering.specs.Blocks.{Block, alike, unlike, start, size, before, total, Valid, number_of}
+use Rattle.numbering.specs.Blocks.{Block, start, size, before, total, Valid, number_of}
 use Rattle.numbering.specs.Numbering.{limits, curves, column_table, row_table, column_blocks, row_blocks, column_key, row_key, column_counted, row_counted, column_number, row_number, nvar, ncon}
 use Rattle.numbering.specs.Layout.{InRange, layout_columns, layout_rows, layout_column, layout_row, nvar_of, ncon_of}
-use Rattle.numbering.specs.Laid.{net_of, Laid}
 use Rattle.numbering.specs.declared.SocWrLayout.{SocWrLayout}
 use Rattle.numbering.specs.declared.ColumnName.{ColumnName}
 use Rattle.numbering.specs.declared.ColumnName.TheVariants.{Pg, Qg, W, Wr, Wi, Pf, Pt, Qf, Qt, CostOf}

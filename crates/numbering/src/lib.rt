@@ -1,4 +1,6 @@
 // Numbering of the rows and columns of the SOCWR program.
+#![tactic(auto)]
+
 use refusals::{Checked, Refusal};
 
 pub mod cones;
@@ -6,14 +8,14 @@ pub mod inner;
 pub mod layout;
 
 // A point of a row of things that have several points each: the thing, and the place in it.
-#[derive(Drop)]
+#[derive(Clone, Copy)]
 pub struct Place {
     pub item: usize,
     pub at: usize,
 }
 
 // A name as numbers: a block, one of its records, and the place among that record's rows.
-#[derive(Drop)]
+#[derive(Clone, Copy)]
 pub struct Key {
     pub block: usize,
     pub item: usize,
@@ -21,7 +23,7 @@ pub struct Key {
 }
 
 // The columns by name. Cost is the epigraph column of a piecewise generator.
-#[derive(Drop)]
+#[derive(Clone, Copy)]
 pub enum ColumnName {
     Pg(usize),
     Qg(usize),
@@ -36,7 +38,7 @@ pub enum ColumnName {
 }
 
 // The rows by name: a segment by its generator and its number there, a cone's row by its branch and its place there.
-#[derive(Drop)]
+#[derive(Clone, Copy)]
 pub enum RowName {
     Pbal(usize),
     Qbal(usize),
@@ -58,7 +60,7 @@ pub enum RowName {
 }
 
 // What is counted over the records of a kind: limited branches, piecewise generators, or segments of generators.
-#[derive(Drop)]
+#[derive(Clone, Copy)]
 pub enum Tally {
     Limited,
     Piecewise,
@@ -66,7 +68,7 @@ pub enum Tally {
 }
 
 // How many buses, branches, generators, segments, limited branches (T) and cost columns there are.
-#[derive(Drop)]
+#[derive(Clone, Copy)]
 pub struct SocWrLayout {
     pub n: usize,
     pub m: usize,
@@ -77,21 +79,21 @@ pub struct SocWrLayout {
 }
 
 // The answer to a lookup: a row's or column's number; that the record has none (the Rust's None); or why it is refused.
-#[derive(Drop)]
+#[derive(Clone, Copy)]
 pub enum Lookup {
     Number(u32),
     Absent,
     Refused(Refusal),
 }
 
-#[derive(Drop)]
+#[derive(Clone, Copy)]
 pub enum LayoutAnswer {
     Layout(SocWrLayout),
     Refused(Refusal),
 }
 
 // The answer of the record check, the layout, and how many limited branches come before a given one; nothing is counted where it refuses.
-#[derive(Drop)]
+#[derive(Clone, Copy)]
 pub struct CheckedLayout {
     pub check: Checked,
     pub layout: SocWrLayout,

@@ -2,11 +2,11 @@
 use Prim.Native.Nat.{ℕ, ◌+◌}
 use mathlib.Core.Path.{◌≡◌, sym, ap, subst}
 use mathlib.Core.Bool.{true}
-use mathlib.Core.List.{List, [], ◌∷◌, ◌++◌}
+use mathlib.Core.List.{[], ◌∷◌, ◌++◌}
 use native.Mathlib.Omega.{arith}
 use lib.Dec.{T}
 use lib.Ieee.{Float}
-use Rattle.lists.specs.UpTo.{up_to, listed, overlay}
+use Rattle.lists.specs.UpTo.{listed}
 use Rattle.lists.proofs.UpTo.{up_to-same}
 use Rattle.refusals.specs.declared.Checked.TheVariants.{Accepted}
 use Rattle.refusals.proofs.Laws.{or_else_accepted, test-held}
@@ -14,7 +14,6 @@ use Rattle.records.specs.AcNetwork.{AcNetwork}
 use Rattle.numbering.proofs.Numbers.{numbers}
 use Rattle.interface.specs.declared.Power.TheVariants.{Active, Reactive}
 use Rattle.interface.specs.declared.End.TheVariants.{From, To}
-use Rattle.interface.specs.declared.VoltageKind.{VoltageKind}
 use Rattle.interface.specs.declared.VoltageKind.TheVariants.{Magnitude, Angle, Squared, ProductReal, ProductImag}
 use Rattle.interface.specs.declared.Operand.{Operand}
 use Rattle.interface.specs.declared.Operand.TheVariants.{Price, Dispatch, Flow, Voltage}

@@ -5,7 +5,6 @@ use Rattle.refusals.specs.Refusals.{◌or_else◌, refuse_unless}
 use Rattle.refusals.specs.declared.Checked.{Checked}
 use Rattle.refusals.specs.declared.Refusal.TheVariants.{NotInSocWr}
 use Rattle.records.specs.AcNetwork.{AcNetwork}
-use Rattle.records.specs.Network.{network_of}
 use Rattle.records.specs.Check.{check_of}
 use Rattle.numbering.specs.Numbering.{column_number}
 use Rattle.numbering.specs.declared.ColumnName.{ColumnName}

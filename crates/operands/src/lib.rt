@@ -1,4 +1,6 @@
 // The selectors of operands.
+#![tactic(auto)]
+
 ghost use Rattle.std.specs.Prelude.{◌≡◌, length};
 ghost use Rattle.refusals.specs.Refusals.{left_in};
 ghost use Rattle.records.specs.Network.{network_of};

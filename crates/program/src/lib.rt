@@ -1,4 +1,6 @@
 // P, q, A and b of the SOCWR program (the Rust's `ProgramBuilder` and `assemble_conic_opf`), from counts and records.
+#![tactic(auto)]
+
 ghost use Rattle.records.specs.Check.{check_of};
 ghost use Rattle.records.specs.Network.{network_of};
 ghost use Rattle.rows.specs.Program.{linear, matrix};

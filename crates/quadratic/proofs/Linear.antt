@@ -1,14 +1,13 @@
 -- q is zeros with the costs written at pg and ones at the cost columns: by its name a column is in one of these two runs, or its element is zero.
 -- Assumes nothing.
-use Prim.Native.Nat.{ℕ, zero, suc, ◌+◌, ◌≤◌, ◌<◌}
+use Prim.Native.Nat.{ℕ, ◌+◌, ◌≤◌, ◌<◌}
 use mathlib.Core.Path.{◌≡◌, refl, sym, ap, ◌∙◌}
-use mathlib.Core.Bool.{Bool, true, false}
 use mathlib.Core.Logic.{◌⊎◌, inl, inr, ⊎_elim}
 use mathlib.Core.List.{List, [], ◌∷◌}
 use native.Mathlib.Omega.{arith}
 use lib.ListN.{length}
 use lib.Ieee.{Float, binary64, add}
-use Rattle.lists.specs.UpTo.{up_to, each, listed, overlay, bit, sum}
+use Rattle.lists.specs.UpTo.{listed, overlay, bit, sum}
 use Rattle.lists.proofs.Each.{each_ext, each-sums}
 use Rattle.lists.proofs.Sums.{sum_room}
 use Rattle.records.specs.AcNetwork.{AcNetwork}

@@ -1,2 +1,4 @@
 // The writers of P and q.
+#![tactic(auto)]
+
 pub mod inner;

@@ -5,7 +5,7 @@ use mathlib.Core.List.{List, [], ◌∷◌}
 use lib.Dec.{ltb}
 use lib.ListN.{length}
 use lib.Ieee.{Float}
-use Rattle.refusals.specs.Refusals.{◌or_else◌, refuse_unless, room_for}
+use Rattle.refusals.specs.Refusals.{refuse_unless, room_for}
 use Rattle.refusals.specs.Order.{sooner, by_order}
 use Rattle.refusals.specs.declared.Refusal.TheVariants.{CountTooLarge, SolutionLength, PastEnd}
 use Rattle.refusals.specs.declared.Checked.{Checked}

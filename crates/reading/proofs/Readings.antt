@@ -25,7 +25,7 @@ use Rattle.numbering.specs.Layout.{layout_of, layout_column, layout_row, nvar_of
 use Rattle.numbering.specs.Lookups.{layout_if}
 use Rattle.numbering.specs.Laid.{net_of, Laid}
 use Rattle.numbering.specs.declared.SocWrLayout.{SocWrLayout}
-use Rattle.numbering.specs.declared.ColumnName.TheVariants.{Pg, Qg, W, Wr, Wi, Pf, Pt, Qf, Qt}
+use Rattle.numbering.specs.declared.ColumnName.TheVariants.{Qg, W, Wr, Wi, Pf, Pt, Qf, Qt}
 use Rattle.numbering.specs.declared.RowName.TheVariants.{Pbal, Qbal}
 use Rattle.numbering.proofs.Laid.{laid, laid-nvar, laid-ncon, laid-row, pg_follows, pg_fits}
 use Rattle.numbering.proofs.Numbers.{column-number, layout-column, layout_row_lem, layout-nvar}

@@ -1,4 +1,6 @@
 // The reading of a solution: the lists of x as parts of it, the prices, the objective.
+#![tactic(auto)]
+
 use refusals::Refusal;
 
 mod checks;
@@ -13,7 +15,7 @@ pub use parts::part;
 pub use pricing::prices;
 
 // The lists of `SocWrSolution` that x holds.
-#[derive(Drop)]
+#[derive(Clone, Copy)]
 pub enum SolutionList {
     Pg,
     Qg,
@@ -27,7 +29,7 @@ pub enum SolutionList {
 }
 
 // The network's objective. Other is any whose value the solver alone knows.
-#[derive(Drop)]
+#[derive(Clone, Copy)]
 pub enum PreparedObjective {
     Feasibility,
     NetworkGeneratorCost,
@@ -35,7 +37,7 @@ pub enum PreparedObjective {
 }
 
 // A number, or why there is none.
-#[derive(Drop)]
+#[derive(Clone, Copy)]
 pub enum Scalar {
     Value(f64),
     Refused(Refusal),

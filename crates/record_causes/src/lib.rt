@@ -1,2 +1,4 @@
 // The causes that turn one record away.
+#![tactic(auto)]
+
 pub mod inner;

@@ -1,4 +1,6 @@
 // The check of a network's records.
+#![tactic(auto)]
+
 ghost use Rattle.std.specs.Prelude.{◌≡◌, ◌+◌, ◌*◌, ◌≤◌, ◌<◌, min, length};
 ghost use Rattle.refusals.specs.Refusals.{◌or_else◌};
 ghost use Rattle.refusals.specs.declared.Checked.TheVariants.{Accepted};
@@ -11,7 +13,7 @@ use refusals::{Checked, Refusal, is_refused, or_else, refuse_unless};
 
 // What the check answers, and what it counted on the way: limited branches (T), piecewise generators (cost columns), and the limited branches
 // before a given one. Nothing is counted where it refuses.
-#[derive(Drop)]
+#[derive(Clone, Copy)]
 pub struct Counted {
     pub check: Checked,
     pub t: usize,
@@ -19,13 +21,13 @@ pub struct Counted {
     pub before: usize,
 }
 
-#[derive(Drop)]
+#[derive(Clone, Copy)]
 struct Branches {
     check: Checked,
     limited: usize,
 }
 
-#[derive(Drop)]
+#[derive(Clone, Copy)]
 struct Generators {
     check: Checked,
     piecewise: usize,

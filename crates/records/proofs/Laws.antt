@@ -1,4 +1,5 @@
 -- What counts and records that the check accepts have: `Network.Accepted`. Assumes nothing.
+use Rattle.refusals.specs.Refusals.{◌or_else◌}
 use Prim.Native.Nat.{ℕ, ◌+◌, ◌<◌}
 use mathlib.Core.Path.{◌≡◌, refl, sym, ◌∙◌, subst}
 use mathlib.Core.Bool.{Bool, true, false, ◌&&◌, ◌||◌, cond}
@@ -7,12 +8,11 @@ use lib.Dec.{T, eqb, ltb}
 use native.Mathlib.Omega.{arith}
 use borrow.Author.Tests.{ltb-true, eqb-true, eqb-false, not-true}
 use Rattle.lists.proofs.UpTo.{up_to-each, up_to-same}
-use Rattle.refusals.specs.Refusals.{◌or_else◌}
 use Rattle.refusals.specs.declared.Checked.TheVariants.{Accepted}
 use Rattle.refusals.proofs.Laws.{or_else_accepted, test-held}
 use Rattle.records.specs.Fields.{kind_of, flags_of, count_of, second_of, from_of, to_of, gen_bus_of, piecewise_of, segments_of}
 use Rattle.records.specs.Network as Network
-use Rattle.records.specs.Check.{zero_floats, length_cause, record_cause, record_causes, branch_cause, gen_form, gen_cause, count_sum, sum_cause, check_of}
+use Rattle.records.specs.Check.{length_cause, record_cause, record_causes, branch_cause, gen_form, gen_cause, count_sum, sum_cause, check_of}
 use Rattle.records.proofs.Causes.{counts_in_range, branch_kind, gen_kind}
 
 and_both : (a b : Bool) → a && b ≡ true → (a ≡ true) × (b ≡ true)

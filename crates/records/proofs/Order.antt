@@ -14,7 +14,7 @@ use Rattle.refusals.specs.declared.Refusal.TheVariants.{CountTooLarge, RecordsLe
 use Rattle.refusals.specs.declared.Checked.{Checked}
 use Rattle.refusals.proofs.Order.{InOrder, in_order, alone, next, whole, wider, by_turn, no_cause}
 use Rattle.records.specs.Fields.{from_of, to_of, gen_bus_of}
-use Rattle.records.specs.Check.{count_cause, length_cause, bus_form, branch_form, gen_form, segment_form, bus_cause, branch_cause, gen_cause, segment_cause, choose, record_cause, record_causes, sum_cause, check_of}
+use Rattle.records.specs.Check.{count_cause, length_cause, branch_form, gen_form, bus_cause, branch_cause, gen_cause, segment_cause, choose, record_cause, record_causes, sum_cause, check_of}
 
 -- what the tests of record r that are made answer, as one check
 abbrev OfRecord : ℕ → Checked → Type 0

@@ -1,2 +1,4 @@
 // The records of a network: what their bytes say.
+#![tactic(auto)]
+
 pub mod inner;

@@ -1,6 +1,6 @@
 -- How an entry goes on after the record check. Assumes nothing.
 use Prim.Native.Nat.{ℕ}
-use mathlib.Core.Path.{◌≡◌, refl, sym, ap, ◌∙◌}
+use mathlib.Core.Path.{◌≡◌, sym, ap, ◌∙◌}
 use mathlib.Core.Bool.{true}
 use mathlib.Core.List.{List}
 use Rattle.refusals.specs.Refusals.{◌or_else◌, is_refused, written_if, left_in}

@@ -1,9 +1,11 @@
 // The causes that turn an input away, and the answers that hold one.
+#![tactic(auto)]
+
 ghost use Rattle.std.specs.Prelude.{◌≡◌};
 ghost use Rattle.refusals.specs.Refusals.{cause_number, cause_value, is_refused, refuse_unless, room_for, ◌or_else◌, written_if};
 
 // A cause of document 01. What a case holds is the value returned with its number.
-#[derive(Drop)]
+#[derive(Clone, Copy)]
 pub enum Refusal {
     // 1: which of n, m, k, S, T, cost columns is too large, as 0..5
     CountTooLarge(u64),
@@ -34,14 +36,14 @@ pub enum Refusal {
 }
 
 // What a check answers.
-#[derive(Drop)]
+#[derive(Clone, Copy)]
 pub enum Checked {
     Accepted,
     Refused(Refusal),
 }
 
 // What an entry that writes answers: how many elements or entries it wrote, or why it wrote nothing.
-#[derive(Drop)]
+#[derive(Clone, Copy)]
 pub enum Written {
     Count(u64),
     Refused(Refusal),

@@ -4,12 +4,12 @@ use mathlib.Core.Path.{◌≡◌, refl, sym, ap, ◌∙◌}
 use mathlib.Core.List.{List, [], ◌∷◌, ◌++◌}
 use native.Mathlib.Nat.{mul-le-mul_right, suc-mul}
 use native.Mathlib.Omega.{arith}
-use lib.ListN.{length, get_or, set}
+use lib.ListN.{length, get_or}
 use lib.Seq.{set_comm, get_or-set_other}
 use lib.Ieee.{Float, nan}
 use Rattle.lists.specs.UpTo.{up_to, listed}
 use Rattle.lists.specs.Steps.{turns, through}
-use Rattle.lists.specs.Entries.{Entry, entry}
+use Rattle.lists.specs.Entries.{Entry}
 use Rattle.sparse.specs.Sparse.{entries}
 use Rattle.sparse.proofs.Fits.{Entered}
 use Rattle.sparse.proofs.Places.{inside}

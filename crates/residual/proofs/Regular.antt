@@ -1,6 +1,6 @@
 -- The residual is that of the entries, then that of the diagonal where eps is not zero. Assumes nothing.
 use Prim.Native.Nat.{ℕ}
-use mathlib.Core.Path.{◌≡◌, refl}
+use mathlib.Core.Path.{◌≡◌}
 use mathlib.Core.Bool.{true, false}
 use mathlib.Core.List.{List, ◌++◌, append-nil}
 use lib.Ieee.{Float, ne}

@@ -1,5 +1,5 @@
 -- `max_abs` of sens/mod.rs: `mx = mx.max(m[(r, c)].abs())` over the columns, from 0.0.
-use Rattle.std.specs.Prelude.{Bool, true, false, not, cond, List, Float}
+use Rattle.std.specs.Prelude.{Bool, false, not, cond, List, Float}
 use Rattle.std.specs.Float.{nan, inf, fin}
 use Rattle.std.specs.Float.Ieee.{is_nan, lt}
 use Rattle.lists.specs.Steps.{through}

@@ -1,1 +1,2 @@
 // Whole numbers: polynomial identities that are decided by computing, and the order.
+#![tactic(auto)]

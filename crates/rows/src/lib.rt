@@ -1,7 +1,8 @@
 // The rows of the SOCWR program: definitions and laws, no code of its own.
+#![tactic(auto)]
 
 // The Ohm rows of a branch, each with a flow of its own.
-#[derive(Drop)]
+#[derive(Clone, Copy)]
 pub enum OhmRow {
     Pf,
     Qf,

@@ -10,7 +10,7 @@ use lib.Ieee.{Float}
 use Rattle.lists.specs.UpTo.{listed}
 use Rattle.cells.specs.Filled.{Filled}
 use Rattle.cells.proofs.Fills.{filled_none, filled_more, filled-all, kept-length}
-use Rattle.cells.specs.Runs.{Run, run, with_runs, RunsOver}
+use Rattle.cells.specs.Runs.{run, with_runs, RunsOver}
 
 -- what is written before a filled part could have been written first
 set_sets : (xs l : List Float) (at p : ℕ) (v : Float) → p < at → set (sets l at xs) p v ≡ sets (set l p v) at xs
@@ -59,7 +59,7 @@ turned i (a ∷ bs) l = turned i bs (set l (a.start + i) (a.element i))
 
 turn : {c i at : ℕ} (bs : List Lane) {l l' : List Float} → i < c → Across c i bs at l l' → Across c (i + 1) bs at l (turned i bs l')
 turn [] h none = none
-turn {c} {i} (a ∷ bs) h (more o w r) = more o (filled_more a.element w refl) (turn bs h (under (a.start + i) (a.element i) (omega arith) r))
+turn {c} {i} {at} (a ∷ bs) h (more o w r) = more o (filled_more a.element w refl) (turn {at = a.start + c} bs h (under (a.start + i) (a.element i) (omega arith) r))
 
 pub across_two : {c i at p q : ℕ} (f g : ℕ → Float) {v w : Float} {l l' : List Float} → Across c i (lane p f ∷ lane q g ∷ []) at l l' → i < c → v ≡ f i → w ≡ g i
     → Across c (i + 1) (lane p f ∷ lane q g ∷ []) at l (set (set l' (p + i) v) (q + i) w)

@@ -1,2 +1,4 @@
 // The writer of b.
+#![tactic(auto)]
+
 pub mod inner;

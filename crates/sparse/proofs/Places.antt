@@ -1,5 +1,5 @@
 -- Places of a matrix that lies by columns, and of a table that lies by items. Assumes nothing.
-use Prim.Native.Nat.{ℕ, suc, ◌+◌, ◌*◌, ◌≤◌, ◌<◌}
+use Prim.Native.Nat.{ℕ, ◌+◌, ◌*◌, ◌≤◌, ◌<◌}
 use mathlib.Core.Path.{◌≡◌}
 use native.Mathlib.Nat.{mul-le-mul_right, suc-mul, add-mul, mul_comm}
 use native.Mathlib.Numerals.{add-one}

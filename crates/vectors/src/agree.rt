@@ -1,5 +1,7 @@
 // Whether lists and floats are the kept ones.
 use crate::input;
+use std::io;
+use std::io::Read;
 
 // Equal bits, or both no number: zeros of unlike sign have unlike inverses.
 pub(crate) fn same_float(a: f64, b: f64) -> bool {
@@ -24,27 +26,27 @@ fn float_at(list: &[f64], at: usize) -> f64 {
 }
 
 // The list is the next numbers. All of them are read.
-pub(crate) fn numbers(list: &[u32]) -> bool {
+pub(crate) fn numbers(from: &mut impl Read, list: &[u32]) -> io::Result<bool> {
     let end = list.len();
     let mut same = true;
     let mut at = 0;
     while at < end {
-        same = same & (number_at(list, at) == input::number());
+        same = same & (number_at(list, at) == input::number(from)?);
         at += 1;
     }
-    same
+    Ok(same)
 }
 
 // The same of floats.
-pub(crate) fn floats(list: &[f64]) -> bool {
+pub(crate) fn floats(from: &mut impl Read, list: &[f64]) -> io::Result<bool> {
     let end = list.len();
     let mut same = true;
     let mut at = 0;
     while at < end {
-        same = same & same_float(float_at(list, at), input::float());
+        same = same & same_float(float_at(list, at), input::float(from)?);
         at += 1;
     }
-    same
+    Ok(same)
 }
 
 // What a call leaves where NaNs are lent: a NaN where the list shows that nothing is written, else what the list holds.

@@ -4,7 +4,7 @@ use crate::calls::{Given, Head, Net};
 use kernel::{Answer, Scalar, combinations, kkt_matrix, programs, readings, sens};
 
 // Number, value and result.
-#[derive(Drop)]
+#[derive(Clone, Copy)]
 pub struct Answered {
     pub number: u64,
     pub value: u64,

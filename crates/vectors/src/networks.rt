@@ -2,9 +2,11 @@
 use crate::input::word;
 use crate::tally::Tally;
 use crate::{input, parts};
+use std::io;
+use std::io::Read;
 
 // What an entry answers, as words; what it does not say is 0.
-#[derive(Drop)]
+#[derive(Clone, Copy)]
 struct Results {
     a: u64,
     b: u64,
@@ -43,16 +45,16 @@ fn five(a: u64, b: u64, c: u64, d: u64, e: u64) -> Results {
 }
 
 // The next eight words.
-fn kept() -> Results {
-    let a = word();
-    let b = word();
-    let c = word();
-    let d = word();
-    let e = word();
-    let f = word();
-    let g = word();
-    let h = word();
-    Results {
+fn kept(from: &mut impl Read) -> io::Result<Results> {
+    let a = word(from)?;
+    let b = word(from)?;
+    let c = word(from)?;
+    let d = word(from)?;
+    let e = word(from)?;
+    let f = word(from)?;
+    let g = word(from)?;
+    let h = word(from)?;
+    Ok(Results {
         a: a,
         b: b,
         c: c,
@@ -61,7 +63,7 @@ fn kept() -> Results {
         f: f,
         g: g,
         h: h,
-    }
+    })
 }
 
 fn same(x: Results, y: Results) -> bool {
@@ -183,35 +185,54 @@ fn asked(
     cones(n, m, k, s, records, a, b)
 }
 
-fn question(n: u64, m: u64, k: u64, s: u64, records: &[u8], t: Tally) -> Tally {
-    let entry = word();
-    let a = word();
-    let b = word();
-    let c = word();
-    let want = kept();
+fn question(
+    rt: &impl Print,
+    from: &mut impl Read,
+    n: u64,
+    m: u64,
+    k: u64,
+    s: u64,
+    records: &[u8],
+    t: Tally,
+) -> io::Result<Tally> {
+    let entry = word(from)?;
+    let a = word(from)?;
+    let b = word(from)?;
+    let c = word(from)?;
+    let want = kept(from)?;
     let got = asked(n, m, k, s, records, entry, a, b, c);
-    t.answer(same(got, want))
+    t.answer(rt, same(got, want))
 }
 
-fn questions(n: u64, m: u64, k: u64, s: u64, count: u64, records: &mut [u8], t: Tally) -> Tally {
-    input::bytes(records);
+fn questions(
+    rt: &impl Print,
+    from: &mut impl Read,
+    n: u64,
+    m: u64,
+    k: u64,
+    s: u64,
+    count: u64,
+    records: &mut [u8],
+    t: Tally,
+) -> io::Result<Tally> {
+    input::bytes(from, records)?;
     let mut out = t;
     let mut left = count;
     while left > 0 {
-        out = question(n, m, k, s, records, out);
+        out = question(rt, from, n, m, k, s, records, out)?;
         left -= 1;
     }
-    out
+    Ok(out)
 }
 
-pub(crate) fn network(t: Tally) -> Tally {
-    let n = word();
-    let m = word();
-    let k = word();
-    let s = word();
-    let length = word();
-    let count = word();
-    let mut records = io::buffer();
+pub(crate) fn network(rt: &impl Print, from: &mut impl Read, t: Tally) -> io::Result<Tally> {
+    let n = word(from)?;
+    let m = word(from)?;
+    let k = word(from)?;
+    let s = word(from)?;
+    let length = word(from)?;
+    let count = word(from)?;
+    let mut records = parts::bytes();
     let end = parts::of_bytes(length, &records);
-    questions(n, m, k, s, count, &mut records[..end], t)
+    questions(rt, from, n, m, k, s, count, &mut records[..end], t)
 }

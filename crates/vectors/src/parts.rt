@@ -1,6 +1,13 @@
 // Lists of fixed room, and how much of one is in use.
 ghost use Rattle.std.specs.Prelude.{◌≡◌, ◌≤◌, length, take};
 
+// Room for the bytes of records.
+pub(crate) fn bytes() -> [u8; 4096]
+    ensures { 4096 ≡ length result }
+{
+    [0; 4096]
+}
+
 // Room for numbers, as an output is before a call.
 pub(crate) fn numbers() -> [u32; 1024]
     ensures { 1024 ≡ length result }

@@ -1,8 +1,8 @@
 // How many cases were replayed and how many of their answers agree.
-use libc::STDOUT_FILENO;
+use std::io;
 use std::num::wrapping_add_u64;
 
-#[derive(Drop)]
+#[derive(Clone, Copy)]
 pub struct Tally {
     pub open: bool,
     pub cases: u64,
@@ -35,27 +35,21 @@ impl Tally {
     }
 
     // One answer more; one that differs is named by its case.
-    pub(crate) fn answer(self, same: bool) -> Tally {
+    pub(crate) fn answer(self, rt: &impl Print, same: bool) -> io::Result<Tally> {
         let mut t = self;
         t.answers = wrapping_add_u64(self.answers, 1);
         if same {
             t.agree = wrapping_add_u64(self.agree, 1);
         } else {
-            io::write_all(STDOUT_FILENO, b"differs: case ");
-            io::print_decimal(STDOUT_FILENO, self.cases);
-            io::write_all(STDOUT_FILENO, b", answer ");
-            io::print_decimal(STDOUT_FILENO, t.answers);
-            io::write_all(STDOUT_FILENO, b"\n");
+            println!(rt; "differs: case {}, answer {}", self.cases, t.answers)?;
         }
-        t
+        Ok(t)
     }
 
-    pub(crate) fn print(self) {
-        io::print_decimal(STDOUT_FILENO, self.cases);
-        io::write_all(STDOUT_FILENO, b" cases, ");
-        io::print_decimal(STDOUT_FILENO, self.agree);
-        io::write_all(STDOUT_FILENO, b" of ");
-        io::print_decimal(STDOUT_FILENO, self.answers);
-        io::write_all(STDOUT_FILENO, b" answers agree\n");
+    pub(crate) fn print(self, rt: &impl Print) -> io::Result<()> {
+        println!(rt;
+            "{} cases, {} of {} answers agree",
+            self.cases, self.agree, self.answers
+        )
     }
 }

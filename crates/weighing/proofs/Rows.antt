@@ -1,6 +1,6 @@
 -- A pass goes on by one segment, of one dense column or of two, and by more dense columns. Assumes nothing.
 use Prim.Native.Nat.{ℕ, ◌+◌, ◌*◌, ◌-◌, ◌≤◌, ◌<◌}
-use mathlib.Core.Path.{◌≡◌, refl, sym, ap, ◌∙◌, subst}
+use mathlib.Core.Path.{◌≡◌, sym, ap, ◌∙◌}
 use mathlib.Core.Logic.{◌⊎◌, inl, inr, ⊎_elim}
 use mathlib.Core.List.{List}
 use native.Mathlib.Nat.{zero-mul, one-mul, add-mul}
@@ -12,7 +12,7 @@ use lib.Ieee.{Float, nan}
 use Rattle.sparse.specs.Sparse.{item_of}
 use Rattle.weighing.specs.Weighing.{weighed}
 use Rattle.weighing.specs.Passes.{place, Below, Spread, Passed, weighed_at}
-use Rattle.weighing.proofs.Cells.{passed_none, passed-one, passed-joined, passed-same}
+use Rattle.weighing.proofs.Cells.{passed-one, passed-joined, passed-same}
 
 pub place-first : (at dense across s : ℕ) → at + s * across ≡ place at dense across 0 s
 place-first at dense across s = omega (arith, zero-mul dense)
@@ -64,7 +64,7 @@ module _ {at dense across segments : ℕ} {f : ℕ → ℕ → Float → Float} 
       ⊎_elim
       (λ h. fresh w d t d' t' (omega arith) h.0 (omega arith) r)
       (λ h. other (sym (rw (h.0, h.1, k.0, k.1) at r))) b))
-      (λ d t b.
+      (λ d t (b : Below 2 (s + 1) d t).
       elim (ℕ_discrete t s) [
         | yes q ↦ elim (ℕ_discrete d 0) [ yes z ↦ inl (inr (z, q)) | no z ↦ inr (omega arith) ]
         | no q ↦ inl (inl (omega arith))

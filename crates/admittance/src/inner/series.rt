@@ -14,7 +14,7 @@ use numbering::SocWrLayout;
 use records::inner::{br_from, br_to};
 
 // The numbers of a branch's Ohm rows, and of their columns but the flows'.
-#[derive(Drop)]
+#[derive(Clone, Copy)]
 pub struct OhmRows {
     pub pf: u32,
     pub qf: u32,
@@ -22,7 +22,7 @@ pub struct OhmRows {
     pub qt: u32,
 }
 
-#[derive(Drop)]
+#[derive(Clone, Copy)]
 pub struct OhmColumns {
     pub from: u32,
     pub to: u32,
@@ -31,7 +31,7 @@ pub struct OhmColumns {
 }
 
 // An entry of d_a: its row, its column and its value.
-#[derive(Drop)]
+#[derive(Clone, Copy)]
 pub struct Entry(pub u32, pub u32, pub f64);
 
 fn ohm_rows(l: SocWrLayout, e: usize) -> OhmRows

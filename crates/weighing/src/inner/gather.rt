@@ -51,7 +51,7 @@ fn lesser(a: usize, b: usize) -> usize
 }
 
 // Where a walk along a column stopped: at the row next, with count cells in the buffer.
-#[derive(Drop)]
+#[derive(Clone, Copy)]
 pub(crate) struct Scanned {
     pub(crate) count: usize,
     pub(crate) next: usize,
@@ -86,7 +86,7 @@ fn gather(
 }
 
 // What a fill of the buffer came to: so many segments, and where the walk stands.
-#[derive(Drop)]
+#[derive(Clone, Copy)]
 pub struct Buffered {
     pub segments: usize,
     pub column: usize,

@@ -8,7 +8,7 @@ ghost use Rattle.weighing.specs.Passes.{place, Below, Spread, Passed, weighed_at
 
 use lists::inner::wide;
 
-#[derive(Drop)]
+#[derive(Clone, Copy)]
 pub(crate) struct Two {
     pub(crate) a: f64,
     pub(crate) b: f64,

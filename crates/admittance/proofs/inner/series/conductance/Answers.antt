@@ -1,0 +1,8 @@
+-- `admittance::inner::series::conductance` meets its contract. Assumes nothing.
+use mathlib.Core.Path.{refl}
+use Rattle.admittance.specs.Places.{series_entries}
+use Rattle.admittance.proofs.inner.series.conductance.Goals as goal
+
+pub returns : goal.returns
+unfolding series_entries
+returns c = refl

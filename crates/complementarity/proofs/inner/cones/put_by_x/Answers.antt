@@ -1,0 +1,19 @@
+-- `complementarity::inner::cones::put_by_x` meets its contract. Assumes nothing.
+use Rattle.lists.proofs.Written.{wrote_none}
+use Rattle.complementarity.specs.Writes.{by_x}
+use Rattle.complementarity.proofs.inner.cones.put_by_x.Goals as goal
+
+pub overflow_add-r : goal.overflow_add-r
+overflow_add-r c = record { fits = rw c.line_of-to.ensures (c.requires.held.held c.args.j) }
+
+pub put_scaled-requires : goal.put_scaled-requires
+unfolding by_x
+put_scaled-requires c = rw (c.line_of-to.ensures, c.line_of-line.ensures, c.arrow-a.ensures) (rw (rw c.arrow-a.ensures at c.if-a.true) at c.requires.l_bound)
+
+pub returns-then-a : goal.returns-then-a
+unfolding by_x
+returns-then-a c = rw (rw c.arrow-a.ensures at c.if-a.true) (rw (c.line_of-to.ensures, c.line_of-line.ensures, c.arrow-a.ensures) at c.put_scaled.ensures)
+
+pub returns : goal.returns
+unfolding by_x
+returns c = rw (rw c.arrow-a.ensures at c.if-a.false) wrote_none

@@ -1,0 +1,10 @@
+-- `numbering::inner::blocks::column_sizes` meets its contract: each length is that of the table's block. Assumes nothing.
+use native.Mathlib.Nat.{one-mul}
+use Rattle.numbering.specs.Blocks.{size, start}
+use Rattle.numbering.specs.Numbering.{column_table}
+use Rattle.numbering.specs.Layout.{layout_columns, sizes_of}
+use Rattle.numbering.proofs.inner.blocks.column_sizes.Goals as goal
+
+pub returns : goal.returns
+unfolding sizes_of layout_columns column_table size start
+returns c = simp one-mul

@@ -1,7 +1,0 @@
--- `operands::inner::selector::reactive_first` meets its contract. Assumes nothing.
-use borrow.Author.Rules.{rules}
-use Rattle.operands.proofs.inner.selector.reactive_first.Statement.{statement}
-use Rattle.operands.proofs.inner.selector.reactive_first.Tie as tie
-
-pub reactive-first-spec : {M : Type 1} → statement M
-reactive-first-spec = tie.close (tie.spec (λ c. search rules) (λ c κs. search rules) (λ c. search rules) (λ c κs. search rules) (λ c. rw c.before.enum_told.given.1 c.qf-column.ensures) (λ c. rw c.before.enum-told2.given.1 c.qt-column.ensures))

@@ -1,0 +1,17 @@
+-- `operands::inner::selector::voltage_first` meets its contract: the column that the layout names is the network's. Assumes nothing.
+use mathlib.Core.Path.{◌∙◌, refl}
+use Rattle.numbering.specs.declared.ColumnName.TheVariants.{W, Wr, Wi}
+use Rattle.numbering.proofs.Laid.{laid-column}
+use Rattle.operands.proofs.inner.selector.voltage_first.Goals as goal
+
+pub returns-in-Squared : goal.returns-in-Squared
+returns-in-Squared c =
+    rw c.in-Squared.is (c.w_column.ensures ∙ laid-column c.args.l c.args.bytes.now c.requires (W 0) refl)
+
+pub returns-in-ProductReal : goal.returns-in-ProductReal
+returns-in-ProductReal c =
+    rw c.in-ProductReal.is (c.wr_column.ensures ∙ laid-column c.args.l c.args.bytes.now c.requires (Wr 0) refl)
+
+pub returns-in-ProductImag : goal.returns-in-ProductImag
+returns-in-ProductImag c =
+    rw c.in-ProductImag.is (c.wi_column.ensures ∙ laid-column c.args.l c.args.bytes.now c.requires (Wi 0) refl)

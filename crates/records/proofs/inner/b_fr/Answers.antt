@@ -1,0 +1,12 @@
+-- `records::inner::b_fr` meets its contract. Assumes nothing.
+use Rattle.records.specs.Fields.{b_fr_of}
+use Rattle.std.proofs.Common.{rules}
+use Rattle.records.proofs.inner.b_fr.Goals as goal
+
+pub float-requires : goal.float-requires
+unfolding b_fr_of
+float-requires c = search rules
+
+pub returns : goal.returns
+unfolding b_fr_of
+returns c = search rules

@@ -1,0 +1,8 @@
+-- `solution::inner::x_cause` meets its contract. Assumes nothing.
+use Rattle.solution.specs.Lengths.{x_cause}
+use Rattle.numbering.proofs.Laid.{laid-nvar}
+use Rattle.solution.proofs.inner.x_cause.Goals as goal
+
+pub returns : goal.returns
+unfolding x_cause
+returns c = cc (laid-nvar c.args.l c.args.bytes.now c.requires)
