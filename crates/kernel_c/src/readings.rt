@@ -1,0 +1,56 @@
+// Reading.
+ghost use Rattle.std.specs.Prelude.{◌≡◌, ◌+◌, length};
+ghost use Rattle.refusals.specs.Refusals.{written_if, left_in};
+ghost use Rattle.records.specs.Network.{network_of};
+ghost use Rattle.reading.specs.Reading.{reading_check, prices_check, price_list, code_answer};
+ghost use Rattle.kernel.specs.Answers.{CheckedAnswer, WrittenAnswer};
+ghost use Rattle.kernel.specs.Scalars.{ScalarAnswer};
+
+use kernel::{Answer, Scalar, readings};
+
+#[unsafe(no_mangle)]
+pub extern "C" fn socwr_reading_check(
+    n: u64,
+    m: u64,
+    k: u64,
+    s: u64,
+    records: &[u8],
+    x: &[f64],
+    z: &[f64],
+) -> Answer
+    ensures { CheckedAnswer (reading_check n m k s records.now x.now z.now) result }
+{
+    readings::socwr_reading_check(n, m, k, s, records, x, z)
+}
+
+#[unsafe(no_mangle)]
+pub extern "C" fn socwr_prices(
+    n: u64,
+    m: u64,
+    k: u64,
+    s: u64,
+    records: &[u8],
+    z: &[f64],
+    prices: &mut [f64],
+) -> Answer
+    ensures written_answer { WrittenAnswer (written_if (prices_check n m k s records.now z.now (length prices.old)) (n + n)) result }
+    ensures prices_after { prices.new ≡ left_in (prices_check n m k s records.now z.now (length prices.old)) (price_list (network_of n m k s records.now) z.now) prices.old }
+{
+    readings::socwr_prices(n, m, k, s, records, z, prices)
+}
+
+#[unsafe(no_mangle)]
+pub extern "C" fn socwr_objective(
+    n: u64,
+    m: u64,
+    k: u64,
+    s: u64,
+    records: &[u8],
+    objective: u64,
+    x: &[f64],
+    solver: f64,
+) -> Scalar
+    ensures { ScalarAnswer (code_answer n m k s records.now objective x.now solver) result }
+{
+    readings::socwr_objective(n, m, k, s, records, objective, x, solver)
+}
