@@ -1,12 +1,7 @@
 -- What an accepted check says. Assumes nothing.
-use Prim.Native.Nat.{ℕ, ◌*◌, ◌≤◌}
-use mathlib.Core.Path.{◌≡◌}
-use mathlib.Core.Bool.{true}
-use mathlib.Core.List.{List}
-use lib.ListN.{length}
-use lib.Ieee.{Float}
+use Rattle.refusals.specs.Refusals.{passed}
+use Rattle.std.proofs.Common.{ℕ, ◌*◌, ◌≤◌, ◌≡◌, true, List, length, Float}
 use Rattle.lists.proofs.Tests.{both}
-use Rattle.refusals.specs.declared.Checked.TheVariants.{Accepted}
 use Rattle.refusals.proofs.Laws.{or_else_accepted, test-held, has_room}
 use Rattle.sparse.specs.Sparse.{items_of}
 use Rattle.sparse.specs.Checks.{bounded, selector_fits}
@@ -20,7 +15,7 @@ pub record Turning (dim : ℕ) (rows cols : List ℕ) (values : List Float) (out
   pub values-room : length rows ≤ out_values
 
 pub transpose_ready : {dim : ℕ} {rows cols : List ℕ} {values : List Float} {out_rows out_cols out_values : ℕ}
-    → transpose_check dim rows cols values out_rows out_cols out_values ≡ Accepted → Turning dim rows cols values out_rows out_cols out_values
+    → transpose_check dim rows cols values out_rows out_cols out_values ≡ passed → Turning dim rows cols values out_rows out_cols out_values
 unfolding transpose_check
 transpose_ready {dim} h =
     let a = or_else_accepted _ _ h in
@@ -39,7 +34,7 @@ pub record Placed (dim : ℕ) (starts rows : List ℕ) (weights : List Float) (o
   pub room : dim * items_of starts ≤ out
 
 pub matrix-ready : {dim : ℕ} {starts rows : List ℕ} {weights : List Float} {out : ℕ}
-    → matrix_check dim starts rows weights out ≡ Accepted → Placed dim starts rows weights out
+    → matrix_check dim starts rows weights out ≡ passed → Placed dim starts rows weights out
 unfolding matrix_check
 matrix-ready h =
     let a = or_else_accepted _ _ h in

@@ -1,10 +1,5 @@
 -- The checks of the transposed entries and of the selector matrix go by document 01's order: 12, then 10. Assumes nothing.
-use Prim.Native.Nat.{ℕ, ◌*◌}
-use mathlib.Core.Path.{◌≡◌, refl}
-use mathlib.Core.Bool.{◌&&◌}
-use mathlib.Core.List.{List, [], ◌∷◌}
-use lib.ListN.{length}
-use lib.Ieee.{Float}
+use Rattle.std.proofs.Common.{ℕ, ◌*◌, ◌≡◌, refl, ◌&&◌, List, [], ◌∷◌, length, Float}
 use Rattle.refusals.specs.Refusals.{refuse_unless, room_for}
 use Rattle.refusals.specs.Order.{sooner, by_order}
 use Rattle.refusals.specs.declared.Refusal.TheVariants.{BadLists}
@@ -15,7 +10,13 @@ use Rattle.adjoint.specs.Checks.{transpose_check, matrix_check}
 
 pub transpose_in_order : (dim : ℕ) (rows cols : List ℕ) (values : List Float) (out_rows out_cols out_values : ℕ)
     → transpose_check dim rows cols values out_rows out_cols out_values
-    ≡ by_order (refuse_unless (bounded dim 0 && entries_fit dim rows cols values) BadLists ∷ room_for (length rows) out_rows ∷ room_for (length rows) out_cols ∷ room_for (length rows) out_values ∷ [])
+    ≡ by_order (
+    refuse_unless (bounded dim 0 && entries_fit dim rows cols values) BadLists
+    ∷ room_for (length rows) out_rows
+    ∷ room_for (length rows) out_cols
+    ∷ room_for (length rows) out_values
+    ∷ []
+    )
 unfolding transpose_check sooner
 transpose_in_order dim rows cols values out_rows out_cols out_values = in_order (next (alone _ _) (next (alone _ _) (next (alone _ _) (alone _ _) refl) refl) refl)
 

@@ -1,9 +1,6 @@
 -- The lists that transposed entries hold. Assumes nothing.
-use Prim.Native.Nat.{ℕ}
-use mathlib.Core.Path.{◌≡◌, refl, sym, ap, ◌∙◌}
-use mathlib.Core.List.{List, map}
-use lib.ListN.{length, get_or}
-use lib.Ieee.{Float, nan}
+use Rattle.std.proofs.Common.{ℕ, ◌≡◌, refl, sym, ap, ◌∙◌, List, map, length, get_or, Float}
+use Rattle.std.specs.Float.{nan}
 use Rattle.lists.specs.UpTo.{listed}
 use Rattle.lists.specs.Entries.{Entry, entry, row_of, col_of, val_of, turned}
 use Rattle.lists.proofs.Listed.{map-listed}

@@ -1,14 +1,14 @@
 // The selector matrix: item o's weights in column o.
 ghost use Rattle.std.specs.Prelude.{◌≡◌, true, ℕ, ◌+◌, ◌*◌, ◌≤◌, ◌<◌, length, get_or};
 ghost use Rattle.lists.specs.Steps.{turns, through};
-ghost use Rattle.refusals.specs.Refusals.{written_if, left_in};
+ghost use Rattle.refusals.specs.Refusals.{answer_if, left_in};
 ghost use Rattle.sparse.specs.Sparse.{items_of, segment};
 ghost use Rattle.sparse.specs.Checks.{selector_fits};
 ghost use Rattle.adjoint.specs.Selectors.{add_weight, add_item, selector_matrix};
 ghost use Rattle.adjoint.specs.Checks.{matrix_check};
 
-use lists::inner::{fill_f64, wide};
-use refusals::{Checked, Refusal, Written, is_refused, room_for, written_if};
+use lists::inner::fill;
+use refusals::{Refusal, refuse_unless, room_for};
 use sparse::inner::{items_of, selector_fits};
 
 // The weights from first up to past added in the column that begins at base.
@@ -25,10 +25,9 @@ fn add_weights(
     requires by_index { (j : ℕ) → j < length rows.now → get_or rows.now j 0 < dim }
     ensures { out.new ≡ through (add_weight base) (segment rows.now weights.now first past) out.old }
 {
-    let count = past - first;
-    for k in 0..count {
-        let at = base + wide(rows[first + k]);
-        out[at] = out[at] + weights[first + k];
+    for (row, weight) in rows[first..past].iter().zip(&weights[first..past]) {
+        let at = base + *row as usize;
+        out[at] += *weight;
     }
 }
 
@@ -44,9 +43,10 @@ fn add_items(
     ensures { out.new ≡ turns (add_item dim starts.now rows.now weights.now) items out.old }
 {
     let mut base = 0;
+    // Kept: an item is read from two neighbours of starts.
     for o in 0..items {
-        let first = wide(starts[o]);
-        let past = wide(starts[o + 1]);
+        let first = starts[o] as usize;
+        let past = starts[o + 1] as usize;
         add_weights(out, base, dim, rows, weights, first, past);
         base += dim;
     }
@@ -63,18 +63,21 @@ fn matrix_into(
     requires { (selector_fits dim starts.now rows.now weights.now ≡ true) × (items ≡ items_of starts.now) × (length out.old ≡ dim * items) }
     ensures { (out.new ≡ selector_matrix dim starts.now rows.now weights.now) × (length out.new ≡ dim * items) }
 {
-    fill_f64(out, out.len(), 0.0);
+    fill(out, out.len(), 0.0);
     add_items(out, items, dim, starts, rows, weights);
 }
 
-fn matrix_check(dim: usize, starts: &[u32], rows: &[u32], weights: &[f64], room: usize) -> Checked
+fn matrix_check(
+    dim: usize,
+    starts: &[u32],
+    rows: &[u32],
+    weights: &[f64],
+    room: usize,
+) -> Result<(), Refusal>
     ensures { result ≡ matrix_check dim starts.now rows.now weights.now room }
 {
-    if selector_fits(dim, starts, rows, weights) {
-        let items = items_of(starts);
-        return room_for(dim * items, room);
-    }
-    Checked::Refused(Refusal::BadLists)
+    refuse_unless(selector_fits(dim, starts, rows, weights), Refusal::BadLists)?;
+    room_for(dim * items_of(starts), room)
 }
 
 // Zeros, with the weights of each item added in its column. It answers how many elements it wrote.
@@ -84,17 +87,14 @@ pub fn selector_matrix(
     rows: &[u32],
     weights: &[f64],
     out: &mut [f64],
-) -> Written
-    ensures value { result ≡ written_if (matrix_check dim starts.now rows.now weights.now (length out.old)) (dim * items_of starts.now) }
+) -> Result<u64, Refusal>
+    ensures value { result ≡ answer_if (matrix_check dim starts.now rows.now weights.now (length out.old)) (dim * items_of starts.now) }
     ensures out_after { out.new ≡ left_in (matrix_check dim starts.now rows.now weights.now (length out.old)) (selector_matrix dim starts.now rows.now weights.now) out.old }
 {
-    let check = matrix_check(dim, starts, rows, weights, out.len());
-    if is_refused(check) {
-        return written_if(check, 0);
-    }
+    matrix_check(dim, starts, rows, weights, out.len())?;
     let items = items_of(starts);
     let need = dim * items;
     let part = &mut out[..need];
     matrix_into(part, items, dim, starts, rows, weights);
-    Written::Count(need as u64)
+    Ok(need as u64)
 }

@@ -1,8 +1,5 @@
 -- The series entries at a branch's numbers are those of its names: the counts give all these numbers. Assumes nothing.
-use Prim.Native.Nat.{ℕ, ◌+◌}
-use mathlib.Core.Path.{◌≡◌, refl, ◌∙◌}
-use mathlib.Core.List.{List}
-use lib.Ieee.{Float}
+use Rattle.std.proofs.Common.{ℕ, ◌+◌, ◌≡◌, refl, ◌∙◌, List, Float}
 use Rattle.records.specs.AcNetwork.{AcNetwork}
 use Rattle.rows.specs.Branch.{branch_of}
 use Rattle.numbering.specs.Numbering.{row_number, column_number}

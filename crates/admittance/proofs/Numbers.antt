@@ -1,9 +1,7 @@
 -- The stores of a shunt at a layout's numbers are those at the network's names. Assumes nothing.
-use Prim.Native.Nat.{ℕ, ◌+◌}
-use mathlib.Core.Path.{◌≡◌, refl, ap₂}
-use mathlib.Core.List.{List, [], ◌∷◌}
-use lib.ListN.{get_or}
-use lib.Ieee.{Float, binary64, nan, mul}
+use Rattle.std.proofs.Common.{ℕ, ◌+◌, ◌≡◌, refl, ap₂, List, [], ◌∷◌, get_or, Float}
+use Rattle.std.specs.Float.{binary64, nan}
+use Rattle.std.specs.Float.Ieee.{mul}
 use Rattle.numbering.specs.Numbering.{row_number}
 use Rattle.numbering.specs.Layout.{layout_row, layout_column}
 use Rattle.numbering.specs.Laid.{net_of, Laid}

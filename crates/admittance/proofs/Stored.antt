@@ -1,11 +1,5 @@
 -- Laws of stores to a column. Assumes nothing.
-use Prim.Native.Nat.{ℕ, ◌+◌, ◌<◌}
-use mathlib.Core.Path.{◌≡◌, refl, sym, ap, ◌∙◌}
-use mathlib.Core.List.{List, [], ◌∷◌, ◌++◌, append-nil, append_assoc}
-use native.Mathlib.Numerals.{add-one}
-use lib.ListN.{length, get_or, take, length-set}
-use lib.Seq.{take-suc}
-use lib.Ieee.{Float}
+use Rattle.std.proofs.Common.{ℕ, ◌+◌, ◌<◌, ◌≡◌, refl, sym, ap, ◌∙◌, List, [], ◌∷◌, ◌++◌, append-nil, append_assoc, add-one, length, get_or, take, length-set, take-suc, Float}
 use Rattle.lists.specs.UpTo.{up_to, each}
 use Rattle.lists.proofs.Each.{each_more}
 use Rattle.admittance.specs.Stores.{Store, put, plus, stored, stored_all}
@@ -41,7 +35,8 @@ module _ {A : Type 0} (f : A → List Store) where
   unfolding in_turn
   one a = append-nil (f a)
 
-  pub turn_more : (xs : List A) (j : ℕ) (d : A) (c₀ : List Float) {c c' : List Float} → j < length xs → c ≡ stored_all (in_turn f (take j xs)) c₀ → c' ≡ stored_all (f (get_or xs j d)) c → c' ≡ stored_all (in_turn f (take (j + 1) xs)) c₀
+  pub turn_more : (xs : List A) (j : ℕ) (d : A) (c₀ : List Float) {c c' : List Float} → j < length xs → c ≡ stored_all (in_turn f (take j xs)) c₀ → c' ≡ stored_all (f (get_or xs j d)) c
+      → c' ≡ stored_all (in_turn f (take (j + 1) xs)) c₀
   turn_more xs j d c₀ h p q =
       q ∙ ap (stored_all (f (get_or xs j d))) p
       ∙ rw (add-one, take-suc xs j d h, turn-append (take j xs) (get_or xs j d ∷ []), one, stored-append)

@@ -1,12 +1,8 @@
 -- Columns written while some starts and some values past theirs are in use. Assumes nothing.
-use Prim.Native.Nat.{ℕ, suc, ◌+◌, ◌-◌, ◌≤◌, ◌<◌}
-use mathlib.Core.Path.{◌≡◌, refl, sym, ap, ◌∙◌}
-use mathlib.Core.List.{List, [], ◌∷◌, ◌++◌, map, append_assoc}
-use mathlib.Core.Logic.{⊎_elim}
-use native.Mathlib.Omega.{arith}
-use lib.ListN.{length, set, take, drop, take-append-drop, length-append, length-drop, length-map}
-use lib.Seq.{sets, sets-eq, set-set, set_comm}
-use lib.Ieee.{Float}
+use Rattle.std.proofs.Common.{ℕ, suc, ◌+◌, ◌-◌, ◌≤◌, ◌<◌, ◌≡◌, refl, sym, ap, ◌∙◌, List, [], ◌∷◌, ◌++◌, map, append_assoc, ⊎_elim, arith, length, set, take, drop, take-append-drop}
+use Rattle.std.proofs.Common.{length-append, length-drop, set-set, Float}
+use lib.ListN.{length-map}
+use lib.Seq.{sets, sets-eq, set_comm}
 use borrow.Rule.Slice.PartMut.{put_mid, Post-is}
 use Rattle.lists.specs.Entries.{Cell, cell_val}
 use Rattle.lists.specs.Compressed.{CellOut, cell_out, WroteCells, write_cells, pos_of, joined}

@@ -1,10 +1,5 @@
 -- A in the parts in which the code writes it. Assumes nothing.
-use Prim.Native.Nat.{ℕ, ◌+◌, ◌-◌, ◌*◌, ◌≤◌}
-use mathlib.Core.Path.{◌≡◌, sym, ap, ◌∙◌}
-use mathlib.Core.List.{List, ◌++◌, append_assoc}
-use native.Mathlib.Omega.{arith}
-use lib.ListN.{length, length-append}
-use lib.Ieee.{Float}
+use Rattle.std.proofs.Common.{ℕ, ◌+◌, ◌*◌, ◌≤◌, ◌≡◌, sym, ap, ◌∙◌, List, ◌++◌, append_assoc, arith, length, length-append, Float}
 use Rattle.lists.specs.UpTo.{each, listed, sum}
 use Rattle.lists.specs.Entries.{Cell}
 use Rattle.lists.specs.Compressed.{joined, starts_from}
@@ -25,7 +20,7 @@ use Rattle.bus_columns.specs.Counts.{own_cells}
 use Rattle.bus_columns.proofs.Counts.{columns_least}
 use Rattle.record_columns.specs.Writers.{cost_turn}
 use Rattle.assembly.specs.Parts.{generator_columns, product_columns, flow_columns, branch_columns}
-use Rattle.cells.proofs.Fills.{listed-length}
+use Rattle.lists.proofs.Listed.{listed-length}
 
 module _ (l : SocWrLayout) (bytes : List ℕ) where
   abbrev G : AcNetwork Float
@@ -83,5 +78,7 @@ module _ (l : SocWrLayout) (bytes : List ℕ) where
     pub matrix-count : length (joined (matrix G)) ≡ length (joined (generator_columns G)) + length (each l.n (w_cells G)) + length (joined (branch_columns G))
     matrix-count =
         ap (λ (x : List (List Cell)). length (joined x)) matrix-parts
-        ∙ ap length (joined-append (generator_columns G ++ listed l.n (w_cells G)) (branch_columns G) ∙ ap (λ (x : List Cell). x ++ joined (branch_columns G)) (joined-append (generator_columns G) (listed l.n (w_cells G))))
+        ∙ ap length
+        (joined-append (generator_columns G ++ listed l.n (w_cells G)) (branch_columns G)
+        ∙ ap (λ (x : List Cell). x ++ joined (branch_columns G)) (joined-append (generator_columns G) (listed l.n (w_cells G))))
         ∙ rw joined-listed (simp length-append)

@@ -14,7 +14,7 @@ ghost use Rattle.numbering.specs.declared.ColumnName.TheVariants.{Pg, W, Wr, Pf}
 
 use bus_columns::inner::counts::{count_from, count_own, count_to};
 use bus_columns::inner::put_buses;
-use lists::inner::store_u32;
+use lists::inner::store;
 use numbering::SocWrLayout;
 use record_columns::inner::branches::{put_flows, put_wis, put_wrs};
 use record_columns::inner::generators::{put_costs, put_pgs, put_qgs};
@@ -127,12 +127,9 @@ fn count_buses(l: SocWrLayout, bytes: &[u8]) -> usize
     ensures value { result ≡ sum l.n (λ i. length (own_cells (net_of l bytes.now) i)) }
     ensures upper_bound { result ≤ 4 * l.n }
 {
-    let n = l.n;
     let mut count = 0;
-    let mut i = 0;
-    while i < n {
+    for i in 0..l.n {
         count += count_own(l, bytes, i);
-        i += 1;
     }
     count
 }
@@ -142,12 +139,9 @@ fn count_ends(l: SocWrLayout, bytes: &[u8]) -> usize
     ensures value { result ≡ sum l.m (λ e. length (from_cells (net_of l bytes.now) e) + length (to_cells (net_of l bytes.now) e)) }
     ensures upper_bound { result ≤ 8 * l.m }
 {
-    let m = l.m;
     let mut count = 0;
-    let mut e = 0;
-    while e < m {
+    for e in 0..l.m {
         count += count_from(l, bytes, e) + count_to(l, bytes, e);
-        e += 1;
     }
     count
 }
@@ -179,7 +173,7 @@ pub fn fill_a(
     ensures whole { Whole (matrix (net_of l bytes.now)) starts.old rows.old vals.old starts.new rows.new vals.new result }
     ensures upper_bound { result ≤ most_a l }
 {
-    store_u32(starts, 0, 0);
+    store(starts, 0, 0);
     let a1 = fill_generators(starts, rows, vals, 0, l, bytes);
     let a2 = fill_buses(starts, rows, vals, a1, l, bytes);
     fill_branches(starts, rows, vals, a2, l, bytes)

@@ -1,14 +1,12 @@
 -- What the loops over the records ask. Assumes nothing.
-use Prim.Native.Nat.{ℕ, ◌+◌, ◌<◌, ◌^◌}
-use mathlib.Core.Path.{◌≡◌, refl, sym, ap₂, ◌∙◌}
-use mathlib.Core.Bool.{Bool}
-use mathlib.Core.List.{List}
-use native.Mathlib.Omega.{arith}
-use lib.Ieee.{Float, binary64, mul}
+use Rattle.std.proofs.Common.{ℕ, ◌+◌, ◌<◌, ◌^◌, ◌≡◌, refl, sym, ap₂, ◌∙◌, Bool, List, arith, Float}
+use Rattle.std.specs.Float.{binary64}
+use Rattle.std.specs.Float.Ieee.{mul}
 use Rattle.lists.specs.UpTo.{up_to, sum, bit, count}
 use Rattle.lists.specs.Entries.{Entry}
 use Rattle.lists.proofs.Sums.{sum-next}
 use Rattle.records.specs.AcNetwork.{AcNetwork}
+use Rattle.records.specs.Fields.{limited_of}
 use Rattle.numbering.specs.Numbering.{column_number}
 use Rattle.numbering.specs.Layout.{nvar_of}
 use Rattle.numbering.specs.Laid.{net_of, Laid}
@@ -27,6 +25,10 @@ pub ohm-same : {l : SocWrLayout} {bytes : List ℕ} {v : ℕ} {r : RowName} {o :
     → (v + o.row < 2 ^ 32) × (ohm_entries (v + o.row) o ≡ plain_row (net_of l bytes) r)
 ohm-same {l} {bytes} {v} {r} {o} h e s =
     (omega (arith, small h, nvar-is h e, s.within), ap₂ (λ (a k : ℕ). ohm_entries (a + k) o) (nvar-is h e) s.number ∙ sym (s.entries (kkt_row (net_of l bytes) r)))
+
+-- a branch's limit, read from its record
+pub bit_at : {b b' : List ℕ} {r r' : ℕ} {x v : Bool} → b' ≡ b → r' ≡ r → x ≡ limited_of b' r' → x ≡ v → limited_of b r ≡ v
+bit_at e h p q = cc
 
 -- counts over the records, one record more
 pub count-more : {i : ℕ} (n : ℕ) (p : ℕ → Bool) (j : ℕ) → i ≡ count n p → j ≡ bit (p n) → i + j ≡ count (n + 1) p

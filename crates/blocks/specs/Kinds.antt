@@ -5,7 +5,6 @@ use Rattle.lists.specs.Entries.{Entry}
 use Rattle.records.specs.AcNetwork.{AcNetwork}
 use Rattle.numbering.specs.declared.SocWrLayout.{SocWrLayout}
 use Rattle.numbering.specs.declared.RowName.{RowName}
-use Rattle.numbering.specs.declared.RowName.TheVariants as RowName
 use Rattle.rows.specs.Program.{thermal_from, thermal_to}
 use Rattle.complementarity.specs.Writes.{cone_in}
 use Rattle.blocks.specs.declared.BoundKind.{BoundKind}

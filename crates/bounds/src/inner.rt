@@ -19,10 +19,8 @@ use records::inner::{
 fn side(on: bool, v: f64) -> Side
     ensures { result ≡ side_of on v }
 {
-    if on {
-        return Side { on, rhs: v };
-    }
-    Side { on, rhs: 1.0 }
+    let rhs = if on { v } else { 1.0 };
+    Side { on, rhs }
 }
 
 // The bounds of bus i's squared voltage.
@@ -47,15 +45,14 @@ pub fn lower_voltage(l: SocWrLayout, bytes: &[u8], i: usize) -> Side
 }
 
 // The bounds of generator g's powers.
+// Kept: the four read another field each and bound another row, so one function would match on both.
 pub fn upper_active(l: SocWrLayout, bytes: &[u8], g: usize) -> Side
     requires laid { Laid l bytes.now }
     requires g_lt_k { g < l.k }
     ensures { Sided (net_of l bytes.now) ((net_of l bytes.now).capable g) (Pgub g) result }
 {
     let r = l.n + l.m + g;
-    let on = generator_capability_active(bytes, r);
-    let v = pmax(bytes, r);
-    side(on, v)
+    side(generator_capability_active(bytes, r), pmax(bytes, r))
 }
 
 pub fn lower_active(l: SocWrLayout, bytes: &[u8], g: usize) -> Side
@@ -64,9 +61,7 @@ pub fn lower_active(l: SocWrLayout, bytes: &[u8], g: usize) -> Side
     ensures { Sided (net_of l bytes.now) ((net_of l bytes.now).capable g) (Pglb g) result }
 {
     let r = l.n + l.m + g;
-    let on = generator_capability_active(bytes, r);
-    let v = pmin(bytes, r);
-    side(on, -v)
+    side(generator_capability_active(bytes, r), -pmin(bytes, r))
 }
 
 pub fn upper_reactive(l: SocWrLayout, bytes: &[u8], g: usize) -> Side
@@ -75,9 +70,7 @@ pub fn upper_reactive(l: SocWrLayout, bytes: &[u8], g: usize) -> Side
     ensures { Sided (net_of l bytes.now) ((net_of l bytes.now).capable g) (Qgub g) result }
 {
     let r = l.n + l.m + g;
-    let on = generator_capability_active(bytes, r);
-    let v = qmax(bytes, r);
-    side(on, v)
+    side(generator_capability_active(bytes, r), qmax(bytes, r))
 }
 
 pub fn lower_reactive(l: SocWrLayout, bytes: &[u8], g: usize) -> Side
@@ -86,9 +79,7 @@ pub fn lower_reactive(l: SocWrLayout, bytes: &[u8], g: usize) -> Side
     ensures { Sided (net_of l bytes.now) ((net_of l bytes.now).capable g) (Qglb g) result }
 {
     let r = l.n + l.m + g;
-    let on = generator_capability_active(bytes, r);
-    let v = qmin(bytes, r);
-    side(on, -v)
+    side(generator_capability_active(bytes, r), -qmin(bytes, r))
 }
 
 // Both bounds of branch e's angle have the same.

@@ -4,6 +4,7 @@
 pub mod inner;
 
 // Whether the row's bound is active, and the row's right side.
+// Kept: no Option, since the row of a bound that is not active stays, with the right side 1.
 #[derive(Clone, Copy)]
 pub struct Side {
     pub on: bool,

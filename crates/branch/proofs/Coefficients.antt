@@ -1,6 +1,5 @@
 -- What the coefficients of the five floats and a shunt are of a branch: a formula uses no more of the branch, so all is computed. Assumes nothing.
-use mathlib.Core.Path.{◌≡◌}
-use lib.Ieee.{Float}
+use Rattle.std.proofs.Common.{◌≡◌, Float}
 use Rattle.rows.specs.Branch.{Branch}
 use Rattle.rows.specs.Rows.{w, wr, wi, zero64, ohm_value}
 use Rattle.rows.specs.declared.OhmRow.{OhmRow}

@@ -1,11 +1,9 @@
 -- Laws of the gathered coefficients. Assumes nothing.
-use Prim.Native.Nat.{ℕ, zero, suc, ◌+◌, ◌*◌, ◌≤◌, ◌<◌}
-use mathlib.Core.Path.{◌≡◌, refl, sym, ap, ◌∙◌}
-use mathlib.Core.List.{List, [], ◌∷◌, ◌++◌, map}
-use native.Mathlib.Omega.{arith}
-use lib.ListN.{length, set, get_or, take, drop, length-append, length-map, get_or-append}
-use lib.Seq.{sets, sets-eq, length-sets, get_or-set_other, get_or-take, get_or-drop, get_or-append-add, length-take-le}
-use lib.Ieee.{Float, nan}
+use Rattle.std.proofs.Common.{ℕ, zero, suc, ◌+◌, ◌*◌, ◌≤◌, ◌<◌, ◌≡◌, refl, sym, ap, ◌∙◌, List, [], ◌∷◌, ◌++◌, map, arith, length, set, get_or, take, drop, length-append, get_or-set_other}
+use Rattle.std.proofs.Common.{get_or-take, get_or-drop, get_or-append-add, length-take-le, Float}
+use lib.ListN.{length-map, get_or-append}
+use lib.Seq.{sets, sets-eq, length-sets}
+use lib.Ieee.{nan}
 use Rattle.lists.specs.UpTo.{up_to, each}
 use Rattle.lists.specs.Entries.{Cell, cell_val}
 use Rattle.lists.specs.Compressed.{cell_out, WroteCells}

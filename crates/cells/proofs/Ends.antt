@@ -1,12 +1,7 @@
 -- Laws of columns and their ends. Assumes nothing.
-use Prim.Native.Nat.{ℕ, zero, suc, ◌+◌, ◌≤◌}
-use mathlib.Core.Path.{◌≡◌, refl, sym, ap, ◌∙◌}
-use mathlib.Core.List.{List, [], ◌∷◌, ◌++◌, map}
-use native.Mathlib.Nat.{add-zero, zero-add}
-use native.Mathlib.Omega.{arith}
-use lib.ListN.{length, set, length-append, length-map}
+use Rattle.std.proofs.Common.{ℕ, zero, suc, ◌+◌, ◌≤◌, ◌≡◌, refl, sym, ap, ◌∙◌, List, [], ◌∷◌, ◌++◌, map, add-zero, zero-add, arith, length, set, length-append, Float}
+use lib.ListN.{length-map}
 use lib.Seq.{sets}
-use lib.Ieee.{Float}
 use Rattle.lists.specs.UpTo.{up_to, each, listed, overlay}
 use Rattle.lists.specs.Entries.{Cell, cell_row, cell_val}
 use Rattle.lists.specs.Compressed.{CellOut, cell_out, WroteCells, pos_of, joined, starts_from}
@@ -15,7 +10,8 @@ use Rattle.lists.proofs.Written.{overlaid}
 use Rattle.lists.proofs.Compressed.{write_cells-pos, rows_sets, vals_sets, rows_of, vals_of, then, wrote_none, joined-append, joined-one, joined-listed}
 use Rattle.cells.specs.Filled.{Filled}
 use Rattle.cells.specs.Columns.{ends_from, Columns, Whole}
-use Rattle.cells.proofs.Fills.{filled-then, filled_empty, kept-length, listed-length}
+use Rattle.lists.proofs.Listed.{listed-length}
+use Rattle.cells.proofs.Fills.{filled-then, filled_empty, kept-length}
 
 pub ends-length : (p : ℕ) (cs : List (List Cell)) → length (ends_from p cs) ≡ length cs
 unfolding ends_from
@@ -88,7 +84,8 @@ empty_ends p (suc n) =
     let e : p + length (joined (listed n (λ j. []))) + 0 ≡ p = rw (empty_joined n) (omega arith) in
     ends-append p (listed n (λ j. [])) ([] ∷ []) ∙ rw (empty_ends p n, e)
 
-pub empty_columns : (n : ℕ) {c at : ℕ} {ss ss' rs : List ℕ} {vs : List Float} → Filled (listed n (λ j. at)) ss (c + 1) ss' → Columns (listed n (λ j. [])) c ss (cell_out rs vs at) ss' (cell_out rs vs at)
+pub empty_columns : (n : ℕ) {c at : ℕ} {ss ss' rs : List ℕ} {vs : List Float} → Filled (listed n (λ j. at)) ss (c + 1) ss'
+    → Columns (listed n (λ j. [])) c ss (cell_out rs vs at) ss' (cell_out rs vs at)
 empty_columns n {at = at} h = record { cells = rw (empty_joined n) wrote_none; ends = rw (empty_ends at n) h }
 
 -- ---- what all columns leave in the three lists

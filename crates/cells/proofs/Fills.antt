@@ -1,23 +1,17 @@
 -- Lists that are written from a position on. Assumes nothing.
-use Prim.Native.Nat.{ℕ, suc, ◌+◌}
-use mathlib.Core.Path.{◌≡◌, refl, sym, ap, ◌∙◌}
-use mathlib.Core.List.{List, [], ◌∷◌, ◌++◌}
-use native.Mathlib.Nat.{add-zero}
-use native.Mathlib.Omega.{arith}
-use lib.ListN.{length, set}
-use lib.Seq.{sets, length-sets}
+use Rattle.std.proofs.Common.{replicate, take, drop, drop-drop, append_assoc, ◌≤◌, ℕ, suc, ◌+◌, ◌≡◌, refl, sym, ap, ◌∙◌, List, [], ◌∷◌, ◌++◌, add-zero, arith, length, set}
+use lib.Seq.{sets, length-sets, sets-eq}
+use lib.ListN.{length-replicate}
+use Rattle.lists.proofs.Overlay.{listed-one}
 use Rattle.cells.specs.Filled.{Filled}
 use Rattle.lists.specs.UpTo.{up_to, each, listed}
 use Rattle.lists.proofs.Each.{each_more}
-use Rattle.lists.proofs.Sums.{each-length, sum_ones}
+use Rattle.lists.proofs.Listed.{listed-length}
 
 module _ {A : Type 0} where
   pub sets_append : (xs ys l : List A) (at : ℕ) → sets l at (xs ++ ys) ≡ sets (sets l at xs) (at + length xs) ys
   sets_append [] ys l at = rw add-zero
   sets_append (x ∷ xs) ys l at = let e : at + length (x ∷ xs) ≡ suc at + length xs = omega arith in rw e (sets_append xs ys (set l at x) (suc at))
-
-  pub listed-length : (f : ℕ → A) (n : ℕ) → length (listed n f) ≡ n
-  listed-length f n = each-length n (λ i. f i ∷ []) ∙ sum_ones n
 
   -- a loop that writes one element a turn
   pub filled_none : (f : ℕ → A) {l : List A} {at : ℕ} → Filled (listed 0 f) l at l
@@ -53,3 +47,9 @@ module _ {A : Type 0} where
   pub filled-turn : (f : ℕ → List A) {i : ℕ} {l l' l₀ : List A} {at next : ℕ} → Filled (each i f) l₀ at l → next ≡ at + length (each i f) → Filled (f i) l next l'
       → Filled (each (i + 1) f) l₀ at l'
   filled-turn f {i} e p q = rw (each_more f i) (filled-then e p q)
+
+  -- one value in a stretch
+  pub filled-stretch : (at n : ℕ) (v : A) {l ys : List A} → at + n ≤ length l → ys ≡ replicate n v → Filled (listed n (λ j. v)) l at (take at l ++ (ys ++ drop n (drop at l)))
+  filled-stretch at n v {l} h e =
+      let k : at + length (replicate n v) ≤ length l = omega (arith, length-replicate n v, h) in
+      record { is = rw (e, listed-one n v, sets-eq (replicate n v) l at k, length-replicate n v, drop-drop, append_assoc) }

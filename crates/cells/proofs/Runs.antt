@@ -1,19 +1,14 @@
 -- Runs written over a list. A run that has g's values leaves a place alone or puts g's value there; so where every place below n has g's value or is in
 -- some run, the front becomes g's list, in whatever order the runs are written. Assumes nothing.
-use Prim.Native.Nat.{ℕ, zero, suc, ◌+◌, ◌-◌, ◌≤◌, ◌<◌}
-use mathlib.Core.Path.{◌≡◌, refl, sym, ap, ◌∙◌}
-use mathlib.Core.Logic.{◌⊎◌, inl, inr, ⊎_elim}
-use mathlib.Core.List.{List, [], ◌∷◌, ◌++◌}
+use Rattle.std.proofs.Common.{ℕ, zero, suc, ◌+◌, ◌-◌, ◌≤◌, ◌<◌, ◌≡◌, refl, sym, ap, ◌∙◌, ◌⊎◌, inl, inr, ⊎_elim, List, [], ◌∷◌, ◌++◌, arith, length, get_or, take, drop, set, length-append}
+use Rattle.std.proofs.Common.{length-take-le, get_or-append-add, get_or-set_other, ext_get_or, Float}
 use native.Mathlib.Decide.{dec_lt}
-use native.Mathlib.Omega.{arith}
-use lib.ListN.{length, get_or, take, drop, set, length-append, get_or-append}
-use lib.Seq.{sets, sets-eq, length-sets, length-take-le, get_or-append-add, get_or-set_other, ext_get_or}
-use lib.Ieee.{Float}
+use lib.ListN.{get_or-append}
+use lib.Seq.{sets, sets-eq, length-sets}
 use Rattle.lists.specs.UpTo.{listed, overlay}
-use Rattle.lists.proofs.Listed.{listed_at}
+use Rattle.lists.proofs.Listed.{listed-length, listed_at}
 use Rattle.lists.proofs.Overlay.{Overlaid, overlay-length, past-written}
 use Rattle.cells.specs.Filled.{Filled}
-use Rattle.cells.proofs.Fills.{listed-length}
 use Rattle.cells.specs.Runs.{Run, run, with_runs, RunsOver}
 
 -- ---- runs one after the other

@@ -7,15 +7,15 @@ ghost use Rattle.lists.specs.Compressed.{cell_out, WroteCells};
 ghost use Rattle.matrix.specs.Columns.{one_cell, nonzero_cell};
 ghost use Rattle.cells.specs.Filled.{Filled};
 
-use lists::inner::{store_f64, store_u32};
+use lists::inner::store;
 
 pub fn put(rows: &mut [u32], vals: &mut [f64], at: usize, r: u32, v: f64) -> usize
     requires { at + 1 < 2 ^ 64 }
     ensures wrote_cells { WroteCells (one_cell r v) (cell_out rows.old vals.old at) (cell_out rows.new vals.new result) }
     ensures upper_bound { result ≤ at + 1 }
 {
-    store_u32(rows, at, r);
-    store_f64(vals, at, v);
+    store(rows, at, r);
+    store(vals, at, v);
     at + 1
 }
 
@@ -45,10 +45,7 @@ pub fn bit_nonzero(v: f64) -> usize
     ensures value { result ≡ bit (ne v zero64) }
     ensures upper_bound { result ≤ 1 }
 {
-    if v != 0.0 {
-        return 1;
-    }
-    0
+    usize::from(v != 0.0)
 }
 
 // The same float count times, from a place on.
@@ -56,9 +53,5 @@ pub fn fill_all(out: &mut [f64], at: usize, count: usize, v: f64)
     requires { at + count ≤ length out.old }
     ensures { Filled (listed count (λ j. v)) out.old at out.new }
 {
-    let mut i = 0;
-    while i < count {
-        out[at + i] = v;
-        i += 1;
-    }
+    out[at..at + count].fill(v);
 }

@@ -1,15 +1,8 @@
 -- What an accepted question has, and what is left in the column. Assumes nothing.
-use Prim.Native.Nat.{ℕ, ◌≤◌, ◌<◌}
-use mathlib.Core.Path.{◌≡◌, sym, ap, ap₂, ◌∙◌, subst}
-use mathlib.Core.Bool.{true}
-use mathlib.Core.List.{List, ◌++◌}
-use borrow.Author.Tests.{ltb-true}
-use lib.Dec.{T}
-use lib.ListN.{length, take, drop, replicate, length-replicate}
-use lib.Seq.{take_at, drop_at}
-use lib.Ieee.{Float}
+use Rattle.refusals.specs.Refusals.{passed}
+use Rattle.std.proofs.Common.{ℕ, ◌≤◌, ◌<◌, ◌≡◌, sym, ap, ap₂, ◌∙◌, subst, true, List, ◌++◌, ltb-true, T, length, take, drop, replicate, take_at, drop_at, Float}
+use Rattle.std.proofs.Math.ListN.{length-replicate}
 use Rattle.lists.specs.UpTo.{overlay}
-use Rattle.refusals.specs.declared.Checked.TheVariants.{Accepted}
 use Rattle.refusals.proofs.Laws.{or_else_accepted, test-held, has_room}
 use Rattle.records.specs.AcNetwork.{AcNetwork}
 use Rattle.interface.specs.declared.Parameter.{Parameter}
@@ -32,7 +25,7 @@ cost-below n m k i (Transformer tap) h l = absurd (subst T (sym h) tt)
 cost-below n m k i Switching h l = absurd (subst T (sym h) tt)
 cost-below n m k i ConstraintLimit h l = absurd (subst T (sym h) tt)
 
-module _ (G : AcNetwork Float) (p : Parameter) (i xs zs there : ℕ) (h : column_cause G p i xs zs there ≡ Accepted) where
+module _ (G : AcNetwork Float) (p : Parameter) (i xs zs there : ℕ) (h : column_cause G p i xs zs there ≡ passed) where
   pub column-room : dim G ≤ there
   unfolding column_cause
   column-room = has_room _ _ (or_else_accepted _ _ (or_else_accepted _ _ h).1).1

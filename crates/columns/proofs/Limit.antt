@@ -1,11 +1,6 @@
 -- The stores at a limited branch's numbers are those of its names. Assumes nothing.
-use Prim.Native.Nat.{ℕ, ◌+◌}
-use mathlib.Core.Path.{◌≡◌}
-use mathlib.Core.Bool.{true, false}
-use mathlib.Core.List.{List, [], ◌∷◌}
-use native.Mathlib.Omega.{arith}
-use lib.ListN.{get_or}
-use lib.Ieee.{Float, nan}
+use Rattle.std.proofs.Common.{ℕ, ◌+◌, ◌≡◌, true, false, List, [], ◌∷◌, arith, get_or, Float}
+use Rattle.std.specs.Float.{nan}
 use Rattle.lists.specs.UpTo.{each}
 use Rattle.lists.proofs.Each.{each_ext}
 use Rattle.records.specs.AcNetwork.{AcNetwork}
@@ -20,7 +15,9 @@ module _ (G : AcNetwork Float) (z : List Float) (e : ℕ) where
       → each 6 (λ q. put (nv + (base + q)) (get_or z (base + q) nan) ∷ []) ≡ limit_stores G z e
   limit_same {nv} {base} v p h =
       rw (h, v)
-      (each_ext _ _ 6 (λ q l. let s : base + q ≡ row_number G (Thermal e q) = omega (arith, row_number_lem G (Thermal e 0), row_number_lem G (Thermal e q)) in rw s))
+      (each_ext _ _ 6 (λ q l.
+      let s : base + q ≡ row_number G (Thermal e q) = omega (arith, row_number_lem G (Thermal e 0), row_number_lem G (Thermal e q)) in
+      rw s))
 
   pub no_limit : (c : List Float) → G.limited e ≡ false → c ≡ stored_all (limit_stores G z e) c
   unfolding stored_all

@@ -1,8 +1,5 @@
 -- The numbers that a layout gives are those of its network. Assumes nothing.
-use Prim.Native.Nat.{ℕ, ◌≤◌}
-use mathlib.Core.Path.{◌≡◌, refl}
-use mathlib.Core.List.{List}
-use native.Mathlib.Omega.{arith}
+use Rattle.std.proofs.Common.{ℕ, ◌≤◌, ◌≡◌, refl, List, arith}
 use Rattle.lists.specs.UpTo.{bit}
 use Rattle.lists.proofs.Sums.{sum_mono}
 use Rattle.numbering.specs.Numbering.{row_number}

@@ -3,8 +3,7 @@ use Rattle.std.specs.Prelude.{ℕ, ◌+◌, not, ◌&&◌, List, [], ◌∷◌, 
 use Rattle.std.specs.Float.{binary64, nan}
 use Rattle.std.specs.Float.Ieee.{mul}
 use Rattle.lists.specs.UpTo.{each, when}
-use Rattle.refusals.specs.Refusals.{◌or_else◌, refuse_unless, room_for}
-use Rattle.refusals.specs.declared.Checked.{Checked}
+use Rattle.refusals.specs.Refusals.{◌or_else◌, refuse_unless, room_for, Checked}
 use Rattle.refusals.specs.declared.Refusal.TheVariants.{PastEnd, PiecewiseCost, NotInSocWr}
 use Rattle.records.specs.AcNetwork.{AcNetwork}
 use Rattle.records.specs.Network.{network_of}

@@ -1,15 +1,8 @@
 -- What lists that fit and an accepted check say. Assumes nothing.
-use Prim.Native.Nat.{ℕ, ◌*◌, ◌≤◌}
-use mathlib.Core.Path.{◌≡◌, sym, subst}
-use mathlib.Core.Bool.{true, ◌&&◌}
-use mathlib.Core.List.{List}
-use native.Mathlib.Nat.{mul-le-mul}
-use borrow.Author.Tests.{eqb-true}
-use lib.Dec.{T, eqb}
-use lib.ListN.{length}
-use lib.Ieee.{Float}
+use Rattle.refusals.specs.Refusals.{passed}
+use Rattle.std.proofs.Common.{ℕ, ◌*◌, ◌≤◌, ◌≡◌, sym, subst, true, ◌&&◌, List, eqb-true, T, eqb, length, Float}
+use Rattle.std.proofs.Math.Nat.{mul-le-mul}
 use Rattle.lists.proofs.Tests.{both}
-use Rattle.refusals.specs.declared.Checked.TheVariants.{Accepted}
 use Rattle.refusals.proofs.Laws.{or_else_accepted, test-held, has_room}
 use Rattle.interface.specs.declared.Mode.{Mode}
 use Rattle.interface.specs.declared.Mode.TheVariants.{Forward, Adjoint, Auto}
@@ -29,7 +22,8 @@ module _ (dim columns : ℕ) (starts rows : List ℕ) (weights rhs solution : Li
       let t = both (bounded dim columns) _ h in
       record { bounds = bounds _ _ t.0; fit = t.1; has = selected _ _ _ _ t.1 }
 
-  pub forwarded : combination_fits Forward dim columns starts rows weights rhs solution ≡ true → (Combined dim columns starts rows weights) × (length solution ≡ dim * columns)
+  pub forwarded : combination_fits Forward dim columns starts rows weights rhs solution ≡ true
+      → (Combined dim columns starts rows weights) × (length solution ≡ dim * columns)
   unfolding combination_fits
   forwarded h =
       let t = both (bounded dim columns && selector_fits dim starts rows weights) _ h in
@@ -63,7 +57,7 @@ pub record Directed (mode : Mode) (dim columns : ℕ) (starts rows : List ℕ) (
   pub room : items_of starts * columns ≤ out
 
 pub combination-ready : {mode : Mode} {dim columns : ℕ} {starts rows : List ℕ} {weights rhs solution : List Float} {out : ℕ}
-    → combination_check mode dim columns starts rows weights rhs solution out ≡ Accepted → Directed mode dim columns starts rows weights rhs solution out
+    → combination_check mode dim columns starts rows weights rhs solution out ≡ passed → Directed mode dim columns starts rows weights rhs solution out
 unfolding combination_check
 combination-ready {mode} h =
     let a = or_else_accepted _ _ h in

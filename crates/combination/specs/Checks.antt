@@ -1,8 +1,7 @@
 -- Document 01, 'Causes turned away', numbers 11, 12 and 10 in this order.
 use Rattle.std.specs.Prelude.{ℕ, ◌*◌, Bool, true, false, ◌&&◌, List, eqb, length, Float}
 use Rattle.refusals.specs.declared.Refusal.TheVariants.{ModeAuto, BadLists}
-use Rattle.refusals.specs.declared.Checked.{Checked}
-use Rattle.refusals.specs.Refusals.{◌or_else◌, refuse_unless, room_for}
+use Rattle.refusals.specs.Refusals.{◌or_else◌, refuse_unless, room_for, Checked}
 use Rattle.interface.specs.declared.Mode.{Mode}
 use Rattle.interface.specs.declared.Mode.TheVariants.{Forward, Adjoint, Auto}
 use Rattle.sparse.specs.Sparse.{items_of}

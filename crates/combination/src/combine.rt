@@ -8,16 +8,16 @@ ghost use Rattle.sparse.specs.Checks.{most_dim, selector_fits};
 ghost use Rattle.combination.specs.Combination.{forward_at, adjoint_at, table};
 ghost use Rattle.combination.specs.Summed.{Summed};
 
-use lists::inner::fill_f64;
-use weighing::inner::gather::fill;
+use lists::inner::fill;
+use weighing::inner::gather;
 use weighing::inner::weigh::weigh_all;
 
 // Each element times the sign.
 fn scale(out: &mut [f64], sign: f64)
     ensures { out.new ≡ listed (length out.old) (λ i. mul binary64 sign (get_or out.old i nan)) }
 {
-    for i in 0..out.len() {
-        out[i] = sign * out[i];
+    for v in out.iter_mut() {
+        *v = sign * *v;
     }
 }
 
@@ -36,7 +36,7 @@ pub(crate) fn forward_into(
     requires { (selector_fits dim starts.now rows.now weights.now ≡ true) × (items ≡ items_of starts.now) × (columns ≤ 65536) × (length x.now ≡ dim * columns) × (length out.old ≡ items * columns) }
     ensures { (out.new ≡ table items columns (forward_at dim starts.now rows.now weights.now sign x.now)) × (length out.new ≡ items * columns) }
 {
-    fill_f64(out, out.len(), 0.0);
+    fill(out, out.len(), 0.0);
     weigh_all(
         out, 0, 1, columns, x, dim, columns, starts, items, rows, weights,
     );
@@ -56,8 +56,9 @@ fn add_columns(out: &mut [f64], dim: usize, columns: usize, items: usize, rhs: &
     let mut values = [0.0; 512];
     let mut c = 0;
     let mut r = 0;
+    // Kept: a fill of the buffer tells where the next one begins.
     while c < columns {
-        let filled = fill(rhs, dim, columns, c, r, &mut starts, &mut rows, &mut values);
+        let filled = gather::fill(rhs, dim, columns, c, r, &mut starts, &mut rows, &mut values);
         let segments = filled.segments;
         weigh_all(
             out, c, columns, 1, y, dim, items, &starts, segments, &rows, &values,
@@ -80,7 +81,7 @@ pub(crate) fn adjoint_into(
     requires { (dim ≤ most_dim) × (columns ≤ 65536) × (items ≤ 65536) × (length rhs.now ≡ dim * columns) × (length y.now ≡ dim * items) × (length out.old ≡ items * columns) }
     ensures { (out.new ≡ table items columns (adjoint_at dim sign rhs.now y.now)) × (length out.new ≡ items * columns) }
 {
-    fill_f64(out, out.len(), 0.0);
+    fill(out, out.len(), 0.0);
     add_columns(out, dim, columns, items, rhs, y);
     scale(out, sign);
 }

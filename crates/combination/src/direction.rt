@@ -1,6 +1,6 @@
 // `forward_adjoint` without its solve: the checks, and the direction that the mode names.
 ghost use Rattle.std.specs.Prelude.{◌≡◌, true, ◌*◌, ◌≤◌, length};
-ghost use Rattle.refusals.specs.Refusals.{written_if, left_in};
+ghost use Rattle.refusals.specs.Refusals.{answer_if, left_in};
 ghost use Rattle.interface.specs.declared.Mode.TheVariants.{Forward, Adjoint};
 ghost use Rattle.sparse.specs.Sparse.{items_of};
 ghost use Rattle.combination.specs.Combination.{combination};
@@ -8,7 +8,7 @@ ghost use Rattle.combination.specs.Checks.{concrete, combination_fits, combinati
 
 use crate::combine::{adjoint_into, forward_into};
 use interface::Mode;
-use refusals::{Checked, Refusal, Written, is_refused, room_for, written_if};
+use refusals::{Refusal, refuse_unless, room_for};
 use sparse::inner::{bounded, items_of, selector_fits};
 
 fn forward_fits(
@@ -51,6 +51,7 @@ fn adjoint_fits(
     false
 }
 
+#[tactic(auto, unfolding(crate::specs::Checks::combination_fits))]
 fn fits(
     mode: Mode,
     dim: usize,
@@ -90,17 +91,13 @@ fn check(
     rhs: &[f64],
     solution: &[f64],
     room: usize,
-) -> Checked
+) -> Result<(), Refusal>
     ensures { result ≡ combination_check mode dim columns starts.now rows.now weights.now rhs.now solution.now room }
 {
-    if is_concrete(mode) {
-        if fits(mode, dim, columns, starts, rows, weights, rhs, solution) {
-            let items = items_of(starts);
-            return room_for(items * columns, room);
-        }
-        return Checked::Refused(Refusal::BadLists);
-    }
-    Checked::Refused(Refusal::ModeAuto)
+    refuse_unless(is_concrete(mode), Refusal::ModeAuto)?;
+    let fits = fits(mode, dim, columns, starts, rows, weights, rhs, solution);
+    refuse_unless(fits, Refusal::BadLists)?;
+    room_for(items_of(starts) * columns, room)
 }
 
 fn combine_into(
@@ -146,22 +143,19 @@ pub fn forward_adjoint(
     rhs: &[f64],
     solution: &[f64],
     out: &mut [f64],
-) -> Written
-    ensures value { result ≡ written_if (combination_check mode dim columns starts.now rows.now weights.now rhs.now solution.now (length out.old)) (items_of starts.now * columns) }
+) -> Result<u64, Refusal>
+    ensures value { result ≡ answer_if (combination_check mode dim columns starts.now rows.now weights.now rhs.now solution.now (length out.old)) (items_of starts.now * columns) }
     ensures out_after { out.new ≡ left_in (combination_check mode dim columns starts.now rows.now weights.now rhs.now solution.now (length out.old)) (combination mode dim columns starts.now rows.now weights.now sign rhs.now solution.now) out.old }
 {
     let room = out.len();
-    let checked = check(
+    check(
         mode, dim, columns, starts, rows, weights, rhs, solution, room,
-    );
-    if is_refused(checked) {
-        return written_if(checked, 0);
-    }
+    )?;
     let items = items_of(starts);
     let need = items * columns;
     let part = &mut out[..need];
     combine_into(
         part, mode, dim, columns, items, starts, rows, weights, sign, rhs, solution,
     );
-    Written::Count(need as u64)
+    Ok(need as u64)
 }

@@ -1,11 +1,7 @@
 -- What is written of a row's numbers is what the KKT list has of the row. Assumes nothing.
-use Prim.Native.Nat.{ℕ, zero, suc, ◌+◌, ◌<◌, ◌^◌}
-use mathlib.Core.Path.{◌≡◌, refl, sym, ap, ap₂, ◌∙◌}
-use mathlib.Core.Bool.{Bool, true, false, cond}
-use mathlib.Core.List.{List, [], ◌∷◌, ◌++◌, map}
-use native.Mathlib.Omega.{arith}
-use lib.ListN.{length, get_or}
-use lib.Ieee.{Float, binary64, nan, neg, ne, add, sub, mul}
+use Rattle.std.proofs.Common.{ℕ, zero, suc, ◌+◌, ◌<◌, ◌^◌, ◌≡◌, refl, sym, ap, ap₂, ◌∙◌, Bool, true, false, cond, List, [], ◌∷◌, ◌++◌, map, arith, length, get_or, Float}
+use Rattle.std.specs.Float.{binary64, nan}
+use Rattle.std.specs.Float.Ieee.{neg, ne, add, sub, mul}
 use Rattle.lists.specs.UpTo.{when}
 use Rattle.lists.specs.Entries.{Entry, entry}
 use Rattle.lists.proofs.Each.{each_ext}
@@ -22,7 +18,6 @@ use Rattle.lines.specs.Line.{line_at, line_sum, line_slack, Within, Stands, cone
 use Rattle.lines.proofs.Sizes.{nvar-is, small}
 use Rattle.lines.specs.declared.Line.{Line}
 use Rattle.lines.specs.declared.Cone.{Cone}
-use Rattle.complementarity.specs.declared.Quad.{Quad}
 use Rattle.complementarity.specs.Writes.{Given, bound_line, line_in, part, duals_of, slacks_of, by_x, by_z, cone_row_of, cone_of, plain_cone, cone_lines, dual, row_entries, cone_in}
 
 -- the sum of entries at x, on top of a
@@ -105,12 +100,6 @@ module _ {G : AcNetwork Float} where
     unfolding cone_lines cone_in cone_of plain_cone
     cone_in_lem true = each_ext _ _ n cone-row
     cone_in_lem false = each_ext _ _ n (λ l d. rw (h.lines l d).number (sym ((h.lines l d).entries (kkt_row G (r l)) (λ a. a))))
-
-pub last-part : (q : Quad) (l : ℕ) → (l ≡ 0 → ⊥) → (l ≡ 1 → ⊥) → (l ≡ 2 → ⊥) → q.d ≡ part q l
-last-part q zero x y z = absurd (x refl)
-last-part q (suc zero) x y z = absurd (y refl)
-last-part q (suc (suc zero)) x y z = absurd (z refl)
-last-part q (suc (suc (suc l))) x y z = refl
 
 -- ---- what a writer of a row asks, of a network
 

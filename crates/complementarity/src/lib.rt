@@ -2,6 +2,9 @@
 #![tactic(auto)]
 
 pub mod inner;
+pub mod point;
+
+pub use point::Point;
 
 // A float for each row of a cone.
 #[derive(Clone, Copy)]

@@ -1,11 +1,8 @@
 -- Laws of the costs. Assumes nothing.
-use Prim.Native.Nat.{ℕ, ◌+◌}
-use mathlib.Core.Path.{◌≡◌, refl, sym, ◌∙◌, ap, ap₂, subst}
-use mathlib.Core.Bool.{Bool, true, false, cond, ◌||◌}
-use mathlib.Core.List.{List}
-use lib.Dec.{T}
-use lib.ListN.{get_or}
-use lib.Ieee.{Float, nan, inf, fin, binary64, of_bits, neg, add, div, lt, ne, is_nan}
+use Rattle.std.proofs.Common.{ℕ, ◌+◌, ◌≡◌, refl, sym, ◌∙◌, ap, ap₂, subst, Bool, true, false, cond, ◌||◌, List, T, get_or, Float}
+use Rattle.std.specs.Float.{nan, inf, binary64}
+use Rattle.std.specs.Float.Ieee.{of_bits, neg, add, div, lt, ne, is_nan}
+use lib.Ieee.{fin}
 use lib.Ieee.Compare.{differs_from_itself, nan_differs}
 use Rattle.lists.specs.UpTo.{up_to}
 use Rattle.lists.proofs.UpTo.{up_to-more}

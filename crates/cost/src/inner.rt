@@ -37,13 +37,11 @@ fn evaluate(b: &[u8], first: usize, count: usize, x: f64) -> f64
     ensures { result ≡ highest (λ t. slope_of b.now (first + t)) (λ t. intercept_of b.now (first + t)) count x }
 {
     let mut best = -1.0 / 0.0;
-    let mut t = 0;
-    while t < count {
+    for t in 0..count {
         let r = first + t;
         let slope = records::inner::slope(b, r);
         let intercept = records::inner::intercept(b, r);
         best = max(best, line(slope, intercept, x));
-        t += 1;
     }
     best
 }
@@ -71,13 +69,11 @@ pub fn total_cost(l: SocWrLayout, b: &[u8], x: &[f64]) -> f64
     let pg = l.pg_column(0) as usize;
     let mut first = l.n + l.m + l.k;
     let mut sum = -0.0;
-    let mut g = 0;
-    while g < l.k {
+    for g in 0..l.k {
         let r = l.n + l.m + g;
         let count = records::inner::segments(b, r);
         sum += generator_cost(b, r, first, count, x[pg + g]);
         first += count;
-        g += 1;
     }
     sum
 }

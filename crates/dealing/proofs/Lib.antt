@@ -3,3 +3,4 @@ pub mod Counts
 pub mod Blurs
 pub mod Fills
 pub mod Counting
+pub mod Ahead

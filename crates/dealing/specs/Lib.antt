@@ -1,2 +1,3 @@
 pub mod Deal
 pub mod Fill
+pub mod Ahead

@@ -1,8 +1,8 @@
 -- Demand 3: the numbering and the KKT entries of an accepted network. `Demanded` states it whole; `kkt_entries` promises it.
+use Rattle.refusals.specs.Refusals.{passed}
 use Rattle.std.specs.Prelude.{ℕ, ◌+◌, ◌*◌, ◌≤◌, ◌<◌, ◌≡◌, ◌⊎◌, List, length, Float}
 use Rattle.lists.specs.Entries.{Entry, times, Every}
 use Rattle.records.specs.AcNetwork.{AcNetwork}
-use Rattle.refusals.specs.declared.Checked.TheVariants.{Accepted}
 use Rattle.records.specs.Check.{check_of}
 use Rattle.numbering.specs.Numbering.{nvar, ncon, column_number}
 use Rattle.numbering.specs.Layout.{layout_of}
@@ -41,5 +41,5 @@ pub record Demand3 (n m k s : ℕ) (bytes : List ℕ) (x z : List Float) : Type 
 -- a z of ncon floats, are the whole list written": for all counts, bytes, x and z
 abbrev pub Demanded : (n m k s : ℕ) → List ℕ → List Float → List Float → Type 0
 Demanded n m k s bytes x z =
-    check_of n m k s bytes ≡ Accepted → length x ≡ nvar (network_of n m k s bytes) → length z ≡ ncon (network_of n m k s bytes)
+    check_of n m k s bytes ≡ passed → length x ≡ nvar (network_of n m k s bytes) → length z ≡ ncon (network_of n m k s bytes)
     → Demand3 n m k s bytes x z

@@ -1,7 +1,5 @@
 -- The number that a layout gives a balance row is its network's: the counts give both. Assumes nothing.
-use Prim.Native.Nat.{ℕ}
-use mathlib.Core.Path.{◌≡◌, sym, ◌∙◌}
-use mathlib.Core.List.{List}
+use Rattle.std.proofs.Common.{ℕ, ◌≡◌, sym, ◌∙◌, List}
 use Rattle.numbering.specs.Numbering.{row_number}
 use Rattle.numbering.specs.Layout.{layout_row}
 use Rattle.numbering.specs.Laid.{net_of}

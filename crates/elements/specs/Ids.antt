@@ -1,17 +1,13 @@
 -- `element_id` of sens/conic.rs.
-use Rattle.std.specs.Prelude.{ℕ, Bool, true, List, ltb, Float}
-use Rattle.refusals.specs.Refusals.{◌or_else◌, refuse_unless, cause_number, cause_value}
-use Rattle.refusals.specs.declared.Checked.{Checked}
-use Rattle.refusals.specs.declared.Checked.TheVariants.{Accepted, Refused}
+use Rattle.std.specs.Prelude.{ℕ, Bool, true, List, ltb, Float, Result}
+use Rattle.refusals.specs.Refusals.{◌or_else◌, refuse_unless, Checked, answer_value}
+use Rattle.refusals.specs.declared.Refusal.{Refusal}
 use Rattle.refusals.specs.declared.Refusal.TheVariants.{PastEnd}
 use Rattle.records.specs.AcNetwork.{AcNetwork}
 use Rattle.records.specs.Check.{check_of}
 use Rattle.interface.specs.declared.Axis.{Axis}
 use Rattle.interface.specs.declared.Axis.TheVariants.{Bus, Branch, Generator, Constraint}
 use Rattle.elements.specs.declared.ElementId.{ElementId}
-use Rattle.elements.specs.declared.ElementId.TheVariants as ElementId
-use Rattle.elements.specs.declared.IdAnswer.{IdAnswer}
-use Rattle.elements.specs.declared.IdAnswer.TheVariants as IdAnswer
 
 abbrev pub element_id : AcNetwork Float → Axis → ℕ → ElementId
 element_id G Bus i = ElementId.Bus (G.bus_id i)
@@ -30,21 +26,12 @@ on_axis n m k Constraint i = true
 abbrev pub id_check : (n m k s : ℕ) → List ℕ → Axis → ℕ → Checked
 id_check n m k s b axis i = check_of n m k s b or_else refuse_unless (on_axis n m k axis i) (PastEnd i)
 
-unfoldable pub id_if : Checked → ElementId → IdAnswer
-id_if Accepted id = IdAnswer.Id id
-id_if (Refused cause) id = IdAnswer.Refused cause
-
--- the number and the value of an answer: 0 and the id, or the cause's
+-- the value of an answer: the id, or the cause's
 abbrev pub element_value : ElementId → ℕ
 element_value (ElementId.Bus id) = id
 element_value (ElementId.Branch id) = id
 element_value (ElementId.Generator id) = id
 element_value (ElementId.Constraint index) = index
 
-abbrev pub id_number : IdAnswer → ℕ
-id_number (IdAnswer.Id id) = 0
-id_number (IdAnswer.Refused cause) = cause_number cause
-
-abbrev pub id_value : IdAnswer → ℕ
-id_value (IdAnswer.Id id) = element_value id
-id_value (IdAnswer.Refused cause) = cause_value cause
+abbrev pub id_value : Result ElementId Refusal → ℕ
+id_value r = answer_value element_value r

@@ -1,7 +1,6 @@
 -- `parameter_len` and `operand_len` of sens/conic.rs: which parameters and operands SOCWR has, and over how many elements each ranges.
 use Rattle.std.specs.Prelude.{ℕ, Bool, true, false, List}
-use Rattle.refusals.specs.Refusals.{◌or_else◌, refuse_unless}
-use Rattle.refusals.specs.declared.Checked.{Checked}
+use Rattle.refusals.specs.Refusals.{◌or_else◌, refuse_unless, Checked}
 use Rattle.refusals.specs.declared.Refusal.TheVariants.{NotInSocWr}
 use Rattle.records.specs.Check.{check_of}
 use Rattle.interface.specs.declared.Parameter.{Parameter}

@@ -2,17 +2,19 @@
 #![tactic(auto)]
 
 ghost use Rattle.std.specs.Prelude.{◌≡◌};
-ghost use Rattle.refusals.specs.Refusals.{written_if};
+ghost use Rattle.refusals.specs.Refusals.{◌or_else◌, refuse_unless, answer_if};
+ghost use Rattle.refusals.specs.declared.Refusal.TheVariants.{NotInSocWr};
+ghost use Rattle.records.specs.Check.{check_of};
 ghost use Rattle.records.specs.Network.{network_of};
 ghost use Rattle.interface.specs.Scales.{served_unit_scale};
 ghost use Rattle.elements.specs.Lengths.{parameter_len, operand_len, parameter_len_check, operand_len_check};
-ghost use Rattle.elements.specs.Ids.{element_id, id_check, id_if};
+ghost use Rattle.elements.specs.Ids.{element_id, id_check};
 
 use inner::ids::{id_of, on_axis};
 use inner::lengths::{has_operand, has_parameter, operand_count, parameter_count};
 use interface::{Axis, Operand, Parameter};
 use record_check::check_records;
-use refusals::{Checked, Refusal, Written, is_refused, or_else, refuse_unless, written_if};
+use refusals::{Refusal, refuse_unless};
 
 pub mod inner;
 
@@ -25,13 +27,25 @@ pub enum ElementId {
     Constraint(u64),
 }
 
-#[derive(Clone, Copy)]
-pub enum IdAnswer {
-    Id(ElementId),
-    Refused(Refusal),
+// The length where the records pass and there is one; else 9 after the record check.
+fn length_if(
+    n: usize,
+    m: usize,
+    k: usize,
+    s: usize,
+    bytes: &[u8],
+    has: bool,
+    length: usize,
+) -> Result<u64, Refusal>
+    ensures { result ≡ answer_if (check_of n m k s bytes.now or_else refuse_unless has NotInSocWr) length }
+{
+    check_records(n, m, k, s, bytes)?;
+    refuse_unless(has, Refusal::NotInSocWr)?;
+    Ok(length as u64)
 }
 
 // `parameter_len`; None is number 9.
+// Kept: beside operand_len, an entry of the C interface each; what they share is length_if.
 pub fn parameter_len(
     n: usize,
     m: usize,
@@ -39,15 +53,11 @@ pub fn parameter_len(
     s: usize,
     bytes: &[u8],
     parameter: Parameter,
-) -> Written
-    ensures { result ≡ written_if (parameter_len_check n m k s bytes.now parameter) (parameter_len n m k parameter) }
+) -> Result<u64, Refusal>
+    ensures { result ≡ answer_if (parameter_len_check n m k s bytes.now parameter) (parameter_len n m k parameter) }
 {
-    let records = check_records(n, m, k, s, bytes);
-    let has = refuse_unless(has_parameter(parameter), Refusal::NotInSocWr);
-    written_if(
-        or_else(records, has),
-        parameter_count(n, m, k, parameter) as u64,
-    )
+    let length = parameter_count(n, m, k, parameter);
+    length_if(n, m, k, s, bytes, has_parameter(parameter), length)
 }
 
 // `operand_len`; None is number 9.
@@ -58,25 +68,11 @@ pub fn operand_len(
     s: usize,
     bytes: &[u8],
     operand: Operand,
-) -> Written
-    ensures { result ≡ written_if (operand_len_check n m k s bytes.now operand) (operand_len n m k operand) }
+) -> Result<u64, Refusal>
+    ensures { result ≡ answer_if (operand_len_check n m k s bytes.now operand) (operand_len n m k operand) }
 {
-    let records = check_records(n, m, k, s, bytes);
-    let has = refuse_unless(has_operand(operand), Refusal::NotInSocWr);
-    written_if(
-        or_else(records, has),
-        operand_count(n, m, k, operand) as u64,
-    )
-}
-
-// The id, where the check passed.
-pub fn id_if(check: Checked, id: ElementId) -> IdAnswer
-    ensures { result ≡ id_if check id }
-{
-    match check {
-        Checked::Accepted => IdAnswer::Id(id),
-        Checked::Refused(cause) => IdAnswer::Refused(cause),
-    }
+    let length = operand_count(n, m, k, operand);
+    length_if(n, m, k, s, bytes, has_operand(operand), length)
 }
 
 // The id of an element of an axis. The constraint axis answers every index.
@@ -88,19 +84,15 @@ pub fn element_id(
     bytes: &[u8],
     axis: Axis,
     index: usize,
-) -> IdAnswer
-    ensures { result ≡ id_if (id_check n m k s bytes.now axis index) (element_id (network_of n m k s bytes.now) axis index) }
+) -> Result<ElementId, Refusal>
+    ensures { result ≡ answer_if (id_check n m k s bytes.now axis index) (element_id (network_of n m k s bytes.now) axis index) }
 {
-    let records = check_records(n, m, k, s, bytes);
-    let has = refuse_unless(
+    check_records(n, m, k, s, bytes)?;
+    refuse_unless(
         on_axis(n, m, k, axis, index),
         Refusal::PastEnd(index as u64),
-    );
-    let check = or_else(records, has);
-    if is_refused(check) {
-        return id_if(check, ElementId::Constraint(0));
-    }
-    IdAnswer::Id(id_of(n, m, k, s, bytes, axis, index))
+    )?;
+    Ok(id_of(n, m, k, s, bytes, axis, index))
 }
 
 // `unit_scale`: the factor from per unit to served units.

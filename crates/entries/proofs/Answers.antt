@@ -1,23 +1,13 @@
 -- How the answer follows from the checks and from what was written. Assumes nothing.
-use Prim.Native.Nat.{ℕ, ◌+◌, ◌≤◌, ◌<◌, ◌^◌}
-use mathlib.Core.Path.{◌≡◌, sym, ap, ◌∙◌}
-use mathlib.Core.Bool.{true}
-use mathlib.Core.List.{List, map}
-use native.Mathlib.Omega.{arith}
-use native.Mathlib.Nat.{zero-add}
-use borrow.Author.Tests.{le-leb}
-use lib.ListN.{length, length-append}
-use lib.Ieee.{Float}
+use Rattle.std.proofs.Common.{ℕ, ◌+◌, ◌≤◌, ◌<◌, ◌^◌, ◌≡◌, refl, sym, ap, subst, ◌∙◌, T, true, Ok, Err, IsErrAnd, List, map, length, length-append, arith, zero-add, le-leb, Float}
+use Rattle.std.specs.Result.{is_ok}
 use Rattle.lists.specs.Entries.{Entry, row_of, col_of, val_of}
 use Rattle.lists.specs.Out.{out, Wrote}
 use Rattle.lists.proofs.Sums.{each-length, sum_ones, sum-le}
 use Rattle.lists.proofs.Written.{pos, rows-front, cols-front, vals-front}
-use Rattle.refusals.specs.Refusals.{◌or_else◌, is_refused, written_if}
-use Rattle.refusals.specs.declared.Checked.{Checked}
-use Rattle.refusals.specs.declared.Checked.TheVariants.{Accepted}
-use Rattle.refusals.specs.declared.Written.{Written}
-use Rattle.refusals.specs.declared.Written.TheVariants as Written
-use Rattle.refusals.proofs.Laws.{or_else_refused, or_else_accepted, accepted-first, held, has_room, left-written, left-refused, count-written, count_any}
+use Rattle.refusals.specs.Refusals.{Checked, Written, passed, ◌or_else◌}
+use Rattle.refusals.specs.declared.Refusal.{Refusal}
+use Rattle.refusals.proofs.Laws.{or_else_refused, or_else_accepted, accepted-first, held, has_room, left-written, left_alone, answer-held, answer-refused, leaves}
 use Rattle.records.specs.AcNetwork.{AcNetwork}
 use Rattle.records.proofs.Sound.{sound}
 use Rattle.numbering.specs.Laid.{net_of, Laid}
@@ -33,8 +23,13 @@ use Rattle.numbering.specs.declared.RowName.TheVariants.{Wub}
 use Rattle.complementarity.specs.Writes.{Given, row_entries}
 use Rattle.entries.specs.Answer.{room_cause, Answered}
 
+-- a check that is no error passed
+pub passed_if : (c : Checked) → is_ok c ≡ true → c ≡ passed
+passed_if (Ok u) h = refl
+passed_if (Err cause) h = absurd (subst T (sym h) tt)
+
 module _ {l : SocWrLayout} {bytes : List ℕ} where
-  pub given : {x z : List Float} → Laid l bytes → solution_cause (net_of l bytes) (length x) (length z) ≡ Accepted → Given l bytes x z
+  pub given : {x z : List Float} → Laid l bytes → solution_cause (net_of l bytes) (length x) (length z) ≡ passed → Given l bytes x z
   given h e = let p = both_long _ _ _ e in record { laid = h; x_length = p.0; z_length = p.1 }
 
   -- the list is not longer than demand 3 says
@@ -54,43 +49,40 @@ covers G x z =
     one-at_least : (i : ℕ) → 1 ≤ length (row_entries G x z true (Wub i))
     one-at_least i = rw length-append (omega arith)
 
-pub rooms : (need : ℕ) (rs cs : List ℕ) (vs : List Float) → room_cause need rs cs vs ≡ Accepted → (need ≤ length rs) × (need ≤ length cs) × (need ≤ length vs)
+pub rooms : (need : ℕ) (rs cs : List ℕ) (vs : List Float) → room_cause need rs cs vs ≡ passed → (need ≤ length rs) × (need ≤ length cs) × (need ≤ length vs)
 unfolding room_cause
 rooms need rs cs vs e =
     let p = or_else_accepted _ _ e in
     let q = or_else_accepted _ _ p.1 in
     (has_room _ _ p.0, has_room _ _ q.0, has_room _ _ q.1)
 
-pub room-less : {need more : ℕ} (rs cs : List ℕ) (vs : List Float) → need ≤ more → room_cause more rs cs vs ≡ Accepted → room_cause need rs cs vs ≡ Accepted
+pub room-less : {need more : ℕ} (rs cs : List ℕ) (vs : List Float) → need ≤ more → room_cause more rs cs vs ≡ passed → room_cause need rs cs vs ≡ passed
 unfolding room_cause
 room-less {need} {more} rs cs vs d e =
     let p = rooms more rs cs vs e in
     rw (held _ _ (le-leb need (length rs) (omega arith)), held _ _ (le-leb need (length cs) (omega arith)), held _ _ (le-leb need (length vs) (omega arith)), accepted-first, accepted-first)
 
 module _ {rs cs : List ℕ} {vs : List Float} where
-  pub refused : {a : Checked} {es : List Entry} {w : Written} → is_refused a ≡ true → w ≡ written_if a 0 → Answered a es rs cs vs rs cs vs w
-  refused {a} {es} h e =
-      record {
-        answer = e ∙ count_any a 0 (length es) h;
-        rows = sym (left-refused a (map row_of es) rs h);
-        cols = sym (left-refused a (map col_of es) cs h);
-        vals = sym (left-refused a (map val_of es) vs h);
-      }
+  pub refused : {a : Checked} {es : List Entry} {out : Written} {cause : Refusal} → a ≡ Err cause → IsErrAnd out (λ x. x ≡ cause) → Answered a es rs cs vs rs cs vs out
+  refused h e =
+      record { answer = leaves e ∙ sym (answer-refused _ h); rows = sym (left_alone _ rs h); cols = sym (left_alone _ cs h); vals = sym (left_alone _ vs h) }
 
-  pub wrote : {a : Checked} {es : List Entry} {rs' cs' : List ℕ} {vs' : List Float} {at : ℕ} → a ≡ Accepted
+  pub wrote : {a : Checked} {es : List Entry} {rs' cs' : List ℕ} {vs' : List Float} {at : ℕ} → a ≡ passed
       → (length es ≤ length rs) × (length es ≤ length cs) × (length es ≤ length vs) → Wrote es (out rs cs vs 0) (out rs' cs' vs' at)
-      → Answered a es rs cs vs rs' cs' vs' (Written.Count at)
+      → Answered a es rs cs vs rs' cs' vs' (Ok at)
   wrote {a} {es} h p e =
       record {
-        answer = ap Written.Count (pos e ∙ zero-add (length es)) ∙ sym (count-written (length es) h);
+        answer = ap Ok (pos e ∙ zero-add (length es)) ∙ sym (answer-held (length es) h);
         rows = rows-front e p.0 ∙ sym (left-written (map row_of es) rs h);
         cols = cols-front e p.1 ∙ sym (left-written (map col_of es) cs h);
         vals = vals-front e p.2 ∙ sym (left-written (map val_of es) vs h);
       }
 
   -- the first of two checks refused, or passed
-  pub stopped : {es : List Entry} {w : Written} (a b : Checked) → is_refused a ≡ true → w ≡ written_if a 0 → Answered (a or_else b) es rs cs vs rs cs vs w
-  stopped a b h e = rw (or_else_refused a b h) (refused h e)
+  pub stopped : {a : Checked} {es : List Entry} {out : Written} {cause : Refusal} (b : Checked) → a ≡ Err cause → IsErrAnd out (λ x. x ≡ cause)
+      → Answered (a or_else b) es rs cs vs rs cs vs out
+  stopped b h e = refused (or_else_refused b h) e
 
-  pub went_on : {a b : Checked} {es : List Entry} {rs' cs' : List ℕ} {vs' : List Float} {w : Written} → a ≡ Accepted → Answered b es rs cs vs rs' cs' vs' w → Answered (a or_else b) es rs cs vs rs' cs' vs' w
+  pub went_on : {a b : Checked} {es : List Entry} {rs' cs' : List ℕ} {vs' : List Float} {w : Written} → a ≡ passed
+      → Answered b es rs cs vs rs' cs' vs' w → Answered (a or_else b) es rs cs vs rs' cs' vs' w
   went_on {b = b} h p = rw (h, accepted-first b) p

@@ -1,9 +1,5 @@
 -- The checks of the KKT entries go by document 01's order: the record check, 6, 10. Assumes nothing.
-use Prim.Native.Nat.{ℕ}
-use mathlib.Core.Path.{◌≡◌, refl}
-use mathlib.Core.List.{List, [], ◌∷◌}
-use lib.ListN.{length}
-use lib.Ieee.{Float}
+use Rattle.std.proofs.Common.{ℕ, ◌≡◌, refl, List, [], ◌∷◌, length, Float}
 use Rattle.refusals.specs.Refusals.{room_for}
 use Rattle.refusals.specs.Order.{sooner, by_order}
 use Rattle.refusals.proofs.Order.{in_order, alone, next}

@@ -1,9 +1,7 @@
 -- What `kkt_entries` answers and leaves in the three lists.
 use Rattle.std.specs.Prelude.{ℕ, ◌≡◌, List, map, length, Float}
 use Rattle.lists.specs.Entries.{Entry, row_of, col_of, val_of}
-use Rattle.refusals.specs.Refusals.{◌or_else◌, room_for, written_if, left_in}
-use Rattle.refusals.specs.declared.Checked.{Checked}
-use Rattle.refusals.specs.declared.Written.{Written}
+use Rattle.refusals.specs.Refusals.{◌or_else◌, room_for, answer_if, left_in, Checked, Written}
 use Rattle.records.specs.Network.{network_of}
 use Rattle.records.specs.Check.{check_of}
 use Rattle.solution.specs.Lengths.{solution_cause}
@@ -23,7 +21,7 @@ kkt_check n m k s bytes x z rs cs vs =
 -- the answer w, and the lists that were rs, cs, vs and are now rs', cs', vs': after a check that accepts, the count and the entries over
 -- their fronts; after one that refuses, its cause and the lists as they were
 pub record Answered (check : Checked) (es : List Entry) (rs cs : List ℕ) (vs : List Float) (rs' cs' : List ℕ) (vs' : List Float) (w : Written) : Type 0 where
-  pub answer : w ≡ written_if check (length es)
+  pub answer : w ≡ answer_if check (length es)
   pub rows : rs' ≡ left_in check (map row_of es) rs
   pub cols : cs' ≡ left_in check (map col_of es) cs
   pub vals : vs' ≡ left_in check (map val_of es) vs

@@ -1,5 +1,5 @@
 -- Parts of the KKT list.
-use Rattle.std.specs.Prelude.{◌+◌, List, ◌++◌, map, Float}
+use Rattle.std.specs.Prelude.{List, ◌++◌, map, Float}
 use Rattle.lists.specs.UpTo.{each}
 use Rattle.lists.specs.Entries.{Entry, turned}
 use Rattle.records.specs.AcNetwork.{AcNetwork}

@@ -1,13 +1,14 @@
 // The parts of the list, each after the other.
 ghost use Rattle.std.specs.Prelude.{◌≡◌, ◌+◌, ◌<◌, ◌^◌, length, map};
-ghost use Rattle.lists.specs.Out.{out, Wrote};
+ghost use Rattle.lists.specs.Puts.{Puts};
 ghost use Rattle.lists.specs.Entries.{turned};
 ghost use Rattle.rows.specs.Program.{equalities, inequalities, second_order, every_row};
 ghost use Rattle.kkt.specs.Kkt.{plain_row, kkt};
-ghost use Rattle.dealing.specs.Fill.{FilledAhead, Finished};
-ghost use Rattle.complementarity.specs.Writes.{Given, row_entries, cone_in};
+ghost use Rattle.dealing.specs.Fill.{Finished};
+ghost use Rattle.dealing.specs.Ahead.{PutsAhead, PutsFinished};
+ghost use Rattle.complementarity.specs.Writes.{row_entries, cone_in};
 ghost use Rattle.entries.specs.Parts.{first_bounds, stationarity};
-ghost use Rattle.numbering.specs.Laid.{net_of, Laid};
+ghost use Rattle.numbering.specs.Network.{grid};
 
 use balance::inner::sorted::balance_rows;
 use blocks::BoundKind;
@@ -16,180 +17,112 @@ use blocks::inner::cones::{jabr_rows, thermal_rows};
 use blocks::inner::diagonal::put_quadratic;
 use blocks::inner::ohm::ohm_rows;
 use blocks::inner::segments::segment_rows;
-use numbering::SocWrLayout;
+use complementarity::Point;
+use lists::Triplets;
+use numbering::Network;
 use rows::OhmRow;
 
 // The rows of the zero cone.
-fn equality_rows(
-    rows: &mut [u32],
-    cols: &mut [u32],
-    vals: &mut [f64],
-    at: usize,
-    l: SocWrLayout,
-    bytes: &[u8],
-) -> usize
-    requires laid { Laid l bytes.now }
-    requires n_bound { at + length (equalities (net_of l bytes.now) (plain_row (net_of l bytes.now))) + l.n < 2 ^ 31 }
-    ensures { FilledAhead l.n (equalities (net_of l bytes.now) (plain_row (net_of l bytes.now))) rows.old cols.old vals.old at rows.new cols.new vals.new result }
+fn equality_rows(list: &mut Triplets<'_>, net: &Network<'_>)
+    requires { list.old.at + length (equalities (grid net.now) (plain_row (grid net.now))) + net.now.layout.n < 2 ^ 31 }
+    ensures { PutsAhead net.now.layout.n (equalities (grid net.now) (plain_row (grid net.now))) list.old list.new }
 {
-    let n1 = balance_rows(rows, cols, vals, at, l, bytes, false);
-    let n2 = balance_rows(rows, cols, vals, n1, l, bytes, true);
-    let n3 = ohm_rows(rows, cols, vals, n2, l, bytes, OhmRow::Pf);
-    let n4 = ohm_rows(rows, cols, vals, n3, l, bytes, OhmRow::Qf);
-    let n5 = ohm_rows(rows, cols, vals, n4, l, bytes, OhmRow::Pt);
-    ohm_rows(rows, cols, vals, n5, l, bytes, OhmRow::Qt)
+    balance_rows(list, net, false);
+    balance_rows(list, net, true);
+    ohm_rows(list, net, OhmRow::Pf);
+    ohm_rows(list, net, OhmRow::Qf);
+    ohm_rows(list, net, OhmRow::Pt);
+    ohm_rows(list, net, OhmRow::Qt);
 }
 
-fn first_bounds(
-    rows: &mut [u32],
-    cols: &mut [u32],
-    vals: &mut [f64],
-    at: usize,
-    l: SocWrLayout,
-    bytes: &[u8],
-    x: &[f64],
-    z: &[f64],
-    d: bool,
-) -> usize
-    requires given { Given l bytes.now x.now z.now }
-    requires d_bound { at + length (first_bounds (net_of l bytes.now) (row_entries (net_of l bytes.now) x.now z.now d)) < 2 ^ 64 }
-    ensures { Wrote (first_bounds (net_of l bytes.now) (row_entries (net_of l bytes.now) x.now z.now d)) (out rows.old cols.old vals.old at) (out rows.new cols.new vals.new result) }
+fn first_bounds(list: &mut Triplets<'_>, p: &Point<'_>, d: bool)
+    requires { list.old.at + length (first_bounds (grid p.now.net) (row_entries (grid p.now.net) p.now.x.now p.now.z.now d)) < 2 ^ 64 }
+    ensures { Puts (first_bounds (grid p.now.net) (row_entries (grid p.now.net) p.now.x.now p.now.z.now d)) list.old list.new }
 {
-    let n1 = bound_rows(rows, cols, vals, at, l, bytes, x, z, d, BoundKind::Wub);
-    let n2 = bound_rows(rows, cols, vals, n1, l, bytes, x, z, d, BoundKind::Wlb);
-    let n3 = bound_rows(rows, cols, vals, n2, l, bytes, x, z, d, BoundKind::Pgub);
-    bound_rows(rows, cols, vals, n3, l, bytes, x, z, d, BoundKind::Pglb)
+    bound_rows(list, p, d, BoundKind::Wub);
+    bound_rows(list, p, d, BoundKind::Wlb);
+    bound_rows(list, p, d, BoundKind::Pgub);
+    bound_rows(list, p, d, BoundKind::Pglb);
 }
 
 // The rows of the nonnegative cone, or the same rows as they are.
-fn inequality_rows(
-    rows: &mut [u32],
-    cols: &mut [u32],
-    vals: &mut [f64],
-    at: usize,
-    l: SocWrLayout,
-    bytes: &[u8],
-    x: &[f64],
-    z: &[f64],
-    d: bool,
-) -> usize
-    requires given { Given l bytes.now x.now z.now }
-    requires d_bound { at + length (inequalities (net_of l bytes.now) (row_entries (net_of l bytes.now) x.now z.now d)) < 2 ^ 64 }
-    ensures { Wrote (inequalities (net_of l bytes.now) (row_entries (net_of l bytes.now) x.now z.now d)) (out rows.old cols.old vals.old at) (out rows.new cols.new vals.new result) }
+fn inequality_rows(list: &mut Triplets<'_>, p: &Point<'_>, d: bool)
+    requires { list.old.at + length (inequalities (grid p.now.net) (row_entries (grid p.now.net) p.now.x.now p.now.z.now d)) < 2 ^ 64 }
+    ensures { Puts (inequalities (grid p.now.net) (row_entries (grid p.now.net) p.now.x.now p.now.z.now d)) list.old list.new }
 {
-    let n1 = first_bounds(rows, cols, vals, at, l, bytes, x, z, d);
-    let n2 = bound_rows(rows, cols, vals, n1, l, bytes, x, z, d, BoundKind::Qgub);
-    let n3 = bound_rows(rows, cols, vals, n2, l, bytes, x, z, d, BoundKind::Qglb);
-    let n4 = bound_rows(rows, cols, vals, n3, l, bytes, x, z, d, BoundKind::Angub);
-    let n5 = bound_rows(rows, cols, vals, n4, l, bytes, x, z, d, BoundKind::Anglb);
-    segment_rows(rows, cols, vals, n5, l, bytes, x, z, d)
+    first_bounds(list, p, d);
+    bound_rows(list, p, d, BoundKind::Qgub);
+    bound_rows(list, p, d, BoundKind::Qglb);
+    bound_rows(list, p, d, BoundKind::Angub);
+    bound_rows(list, p, d, BoundKind::Anglb);
+    segment_rows(list, p, d);
 }
 
 // The second-order cones, or the same rows as they are.
-fn cone_rows(
-    rows: &mut [u32],
-    cols: &mut [u32],
-    vals: &mut [f64],
-    at: usize,
-    l: SocWrLayout,
-    bytes: &[u8],
-    x: &[f64],
-    z: &[f64],
-    d: bool,
-) -> usize
-    requires given { Given l bytes.now x.now z.now }
-    requires d_bound { at + length (second_order (net_of l bytes.now) (cone_in (net_of l bytes.now) x.now z.now d)) < 2 ^ 64 }
-    ensures { Wrote (second_order (net_of l bytes.now) (cone_in (net_of l bytes.now) x.now z.now d)) (out rows.old cols.old vals.old at) (out rows.new cols.new vals.new result) }
+fn cone_rows(list: &mut Triplets<'_>, p: &Point<'_>, d: bool)
+    requires { list.old.at + length (second_order (grid p.now.net) (cone_in (grid p.now.net) p.now.x.now p.now.z.now d)) < 2 ^ 64 }
+    ensures { Puts (second_order (grid p.now.net) (cone_in (grid p.now.net) p.now.x.now p.now.z.now d)) list.old list.new }
 {
-    let n1 = jabr_rows(rows, cols, vals, at, l, bytes, x, z, d);
-    thermal_rows(rows, cols, vals, n1, l, bytes, x, z, d)
+    jabr_rows(list, p, d);
+    thermal_rows(list, p, d);
 }
 
 // All rows of A, as rows of the KKT matrix.
-fn program_rows(
-    rows: &mut [u32],
-    cols: &mut [u32],
-    vals: &mut [f64],
-    at: usize,
-    l: SocWrLayout,
-    bytes: &[u8],
-    x: &[f64],
-    z: &[f64],
-) -> usize
-    requires given { Given l bytes.now x.now z.now }
-    requires n_bound { at + length (every_row (net_of l bytes.now) (plain_row (net_of l bytes.now))) + l.n < 2 ^ 31 }
-    ensures { FilledAhead l.n (every_row (net_of l bytes.now) (plain_row (net_of l bytes.now))) rows.old cols.old vals.old at rows.new cols.new vals.new result }
+fn program_rows(list: &mut Triplets<'_>, p: &Point<'_>)
+    requires { list.old.at + length (every_row (grid p.now.net) (plain_row (grid p.now.net))) + p.now.net.layout.n < 2 ^ 31 }
+    ensures { PutsAhead p.now.net.layout.n (every_row (grid p.now.net) (plain_row (grid p.now.net))) list.old list.new }
 {
-    let n1 = equality_rows(rows, cols, vals, at, l, bytes);
-    let n2 = inequality_rows(rows, cols, vals, n1, l, bytes, x, z, false);
-    cone_rows(rows, cols, vals, n2, l, bytes, x, z, false)
+    equality_rows(list, &p.net);
+    inequality_rows(list, p, false);
+    cone_rows(list, p, false);
 }
 
-// The transposed rows: the two slices of numbers are exchanged.
-fn turned_rows(
-    rows: &mut [u32],
-    cols: &mut [u32],
-    vals: &mut [f64],
-    at: usize,
-    l: SocWrLayout,
-    bytes: &[u8],
-    x: &[f64],
-    z: &[f64],
-) -> usize
-    requires given { Given l bytes.now x.now z.now }
-    requires n_bound { at + length (map turned (every_row (net_of l bytes.now) (plain_row (net_of l bytes.now)))) + l.n < 2 ^ 31 }
-    ensures { FilledAhead l.n (map turned (every_row (net_of l bytes.now) (plain_row (net_of l bytes.now)))) rows.old cols.old vals.old at rows.new cols.new vals.new result }
+// The transposed rows: the two lists of numbers are exchanged.
+fn turned_rows(list: &mut Triplets<'_>, p: &Point<'_>)
+    requires { list.old.at + length (map turned (every_row (grid p.now.net) (plain_row (grid p.now.net)))) + p.now.net.layout.n < 2 ^ 31 }
+    ensures { PutsAhead p.now.net.layout.n (map turned (every_row (grid p.now.net) (plain_row (grid p.now.net)))) list.old list.new }
 {
-    program_rows(cols, rows, vals, at, l, bytes, x, z)
+    list.exchange();
+    program_rows(list, p);
+    list.exchange();
 }
 
 // The list up to the rows of the zero cone.
-fn first_part(
-    rows: &mut [u32],
-    cols: &mut [u32],
-    vals: &mut [f64],
-    at: usize,
-    l: SocWrLayout,
-    bytes: &[u8],
-    x: &[f64],
-    z: &[f64],
-) -> usize
-    requires given { Given l bytes.now x.now z.now }
-    requires n_bound { at + length (stationarity (net_of l bytes.now)) + l.n < 2 ^ 31 }
-    ensures { FilledAhead l.n (stationarity (net_of l bytes.now)) rows.old cols.old vals.old at rows.new cols.new vals.new result }
+fn first_part(list: &mut Triplets<'_>, p: &Point<'_>)
+    requires { list.old.at + length (stationarity (grid p.now.net)) + p.now.net.layout.n < 2 ^ 31 }
+    ensures { PutsAhead p.now.net.layout.n (stationarity (grid p.now.net)) list.old list.new }
 {
-    let n1 = put_quadratic(rows, cols, vals, at, l, bytes);
-    let n2 = turned_rows(rows, cols, vals, n1, l, bytes, x, z);
-    equality_rows(rows, cols, vals, n2, l, bytes)
+    put_quadratic(list, &p.net);
+    turned_rows(list, p);
+    equality_rows(list, &p.net);
 }
 
-// The whole list.
-pub(crate) fn kkt_list(
-    rows: &mut [u32],
-    cols: &mut [u32],
-    vals: &mut [f64],
-    at: usize,
-    l: SocWrLayout,
-    bytes: &[u8],
-    x: &[f64],
-    z: &[f64],
-) -> usize
-    requires given { Given l bytes.now x.now z.now }
-    requires n_bound { at + length (kkt (net_of l bytes.now) x.now z.now) + l.n < 2 ^ 31 }
-    ensures { Finished (kkt (net_of l bytes.now) x.now z.now) rows.old cols.old vals.old at rows.new cols.new vals.new result }
+fn put_kkt(list: &mut Triplets<'_>, p: &Point<'_>)
+    requires { list.old.at + length (kkt (grid p.now.net) p.now.x.now p.now.z.now) + p.now.net.layout.n < 2 ^ 31 }
+    ensures { PutsFinished (kkt (grid p.now.net) p.now.x.now p.now.z.now) list.old list.new }
 {
-    let n1 = first_part(rows, cols, vals, at, l, bytes, x, z);
-    let n2 = inequality_rows(rows, cols, vals, n1, l, bytes, x, z, true);
-    cone_rows(rows, cols, vals, n2, l, bytes, x, z, true)
+    first_part(list, p);
+    inequality_rows(list, p, true);
+    cone_rows(list, p, true);
 }
 
-// How many entries the list has: they are written to places that are dropped.
-pub(crate) fn kkt_count(l: SocWrLayout, bytes: &[u8], x: &[f64], z: &[f64]) -> usize
-    requires { Given l bytes.now x.now z.now }
-    ensures { result ≡ length (kkt (net_of l bytes.now) x.now z.now) }
+// The whole list, from the front of the lists on, and how many entries it has.
+pub(crate) fn kkt_list(rows: &mut [u32], cols: &mut [u32], vals: &mut [f64], p: &Point<'_>) -> usize
+    ensures { Finished (kkt (grid p.now.net) p.now.x.now p.now.z.now) rows.old cols.old vals.old 0 rows.new cols.new vals.new result }
 {
-    let mut r = [0u32; 1];
-    let mut c = [0u32; 1];
-    let mut v = [0.0f64; 1];
-    kkt_list(&mut r, &mut c, &mut v, 0, l, bytes, x, z)
+    let mut list = Triplets {
+        rows,
+        cols,
+        vals,
+        at: 0,
+    };
+    put_kkt(&mut list, p);
+    list.at
+}
+
+// How many entries the list has: lists without a place take none of them.
+pub(crate) fn kkt_count(p: &Point<'_>) -> usize
+    ensures { result ≡ length (kkt (grid p.now.net) p.now.x.now p.now.z.now) }
+{
+    kkt_list(&mut [], &mut [], &mut [], p)
 }

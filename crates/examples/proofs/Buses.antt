@@ -10,8 +10,7 @@ use borrow.Author.Tests.{ne_eqb, eq-eqb, le-leb}
 use Rattle.lists.specs.UpTo.{up_to, all}
 use Rattle.lists.proofs.UpTo.{up_to-same}
 use Rattle.lists.proofs.Listed.{listed_at, listed-length}
-use Rattle.refusals.specs.Refusals.{refuse_unless, ◌or_else◌}
-use Rattle.refusals.specs.declared.Checked.TheVariants.{Accepted}
+use Rattle.refusals.specs.Refusals.{refuse_unless, ◌or_else◌, passed}
 use Rattle.refusals.proofs.Laws.{held}
 use Rattle.records.specs.Bytes.{le16, le32, le64}
 use Rattle.records.specs.Fields.{kind_of, flags_of, count_of, first_of, second_of, bits_of}
@@ -62,18 +61,18 @@ module _ (n r : ℕ) (h : r < n) where
         zeros 6 8 (omega arith),
       )
 
-  passes : record_cause n 0 0 (buses n) r ≡ Accepted
+  passes : record_cause n 0 0 (buses n) r ≡ passed
   unfolding bus_cause
   passes = bus_kind n 0 0 (buses n) r h ∙ held _ _ form
 
 -- records that all pass
-all_pass : (c : ℕ) → up_to ◌or_else◌ Accepted (λ i. Accepted) c ≡ Accepted
+all_pass : (c : ℕ) → up_to ◌or_else◌ passed (λ i. passed) c ≡ passed
 unfolding up_to ◌or_else◌
 all_pass zero = refl
 all_pass (suc c) = rw (all_pass c)
 
 -- buses alone: the counts, the length and the records are left to check, the sum is 0
-buses-alone : (n : ℕ) (b : List ℕ) → n ≤ 4096 → length b ≡ 128 * (n + 0 + 0 + 0) → record_causes n 0 0 b (n + 0 + 0 + 0) ≡ Accepted → check_of n 0 0 0 b ≡ Accepted
+buses-alone : (n : ℕ) (b : List ℕ) → n ≤ 4096 → length b ≡ 128 * (n + 0 + 0 + 0) → record_causes n 0 0 b (n + 0 + 0 + 0) ≡ passed → check_of n 0 0 0 b ≡ passed
 unfolding check_of count_cause length_cause sum_cause count_sum up_to ◌or_else◌ refuse_unless
 buses-alone n b h e p = rw (le-leb n 4096 h, eq-eqb (length b) (128 * (n + 0 + 0 + 0)) e, p)
 
@@ -82,9 +81,9 @@ module _ (n : ℕ) where
   unfolding buses
   size = listed-length bus_byte (128 * n) ∙ omega arith
 
-  records-pass : record_causes n 0 0 (buses n) (n + 0 + 0 + 0) ≡ Accepted
+  records-pass : record_causes n 0 0 (buses n) (n + 0 + 0 + 0) ≡ passed
   unfolding record_causes
-  records-pass = up_to-same ◌or_else◌ Accepted _ (λ i. Accepted) (n + 0 + 0 + 0) (λ r l. passes n r (omega arith)) ∙ all_pass _
+  records-pass = up_to-same ◌or_else◌ passed _ (λ i. passed) (n + 0 + 0 + 0) (λ r l. passes n r (omega arith)) ∙ all_pass _
 
-  pub accepted-buses : n ≤ 4096 → check_of n 0 0 0 (buses n) ≡ Accepted
+  pub accepted-buses : n ≤ 4096 → check_of n 0 0 0 (buses n) ≡ passed
   accepted-buses h = buses-alone n (buses n) h size records-pass

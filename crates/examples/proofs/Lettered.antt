@@ -1,10 +1,10 @@
 -- Every line of the table holds: F and I by laws, the others by computation. Assumes nothing.
+use Rattle.std.proofs.Common.{Err}
 use mathlib.Core.Path.{◌≡◌, refl}
 use native.Mathlib.Omega.{arith}
 use lib.Ieee.{of_bits, to_bits, neg, mul, div, add, sub, ne, eq, le, lt}
 use Rattle.lists.specs.UpTo.{up_to}
 use Rattle.refusals.specs.Refusals.{refuse_unless, ◌or_else◌}
-use Rattle.refusals.specs.declared.Checked.TheVariants.{Refused}
 use Rattle.refusals.specs.declared.Refusal.TheVariants.{CountTooLarge}
 use Rattle.records.specs.Bytes.{le16, le32, le64}
 use Rattle.records.specs.Fields.{kind_of, flags_of, count_of, id_of, first_of, second_of, bits_of, float_of, flag_bit, g_of, b_of, g_fr_of, b_fr_of, g_to_of, b_to_of, tap_of, limited_of, piecewise_of, segments_of, angled_of}
@@ -57,7 +57,7 @@ unfolding letter_h q ◌or_else◌ refuse_unless up_to le16 le32 le64 kind_of fl
 right_h x z = refl
 
 -- the count is refused before the bytes are looked at
-too_many : check_of 4097 0 0 0 (buses 4097) ≡ Refused (CountTooLarge 0)
+too_many : check_of 4097 0 0 0 (buses 4097) ≡ Err (CountTooLarge 0)
 unfolding ◌or_else◌ refuse_unless count_cause check_of
 too_many = refl
 

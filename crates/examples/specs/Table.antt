@@ -4,14 +4,12 @@ use Rattle.std.specs.Float.{binary64, nan}
 use Rattle.std.specs.Float.Ieee.{of_bits, to_bits}
 use Rattle.lists.specs.UpTo.{listed, when}
 use Rattle.lists.specs.Entries.{Entry, sits}
-use Rattle.refusals.specs.Refusals.{checked_number, checked_value}
+use Rattle.refusals.specs.Refusals.{answer_number, checked_value}
 use Rattle.records.specs.AcNetwork.{AcNetwork}
 use Rattle.records.specs.Network.{network_of}
 use Rattle.records.specs.Check.{check_of}
 use Rattle.numbering.specs.Numbering.{nvar, ncon, cone_lengths, column_number, column_key, row_key}
-use Rattle.numbering.specs.Lookups.{lookup_number, lookup_value}
-use Rattle.lookups.specs.Lookups.{column_asked, row_asked}
-use Rattle.numbering.specs.declared.Lookup.{Lookup}
+use Rattle.lookups.specs.Lookups.{Lookup, lookup_number, lookup_value, column_asked, row_asked}
 use Rattle.numbering.specs.declared.ColumnName.TheVariants.{W, Wr, CostOf}
 use Rattle.numbering.specs.declared.RowName.TheVariants.{OhmPf, Wub, Wlb, Angub, Anglb, Segment}
 use Rattle.rows.specs.Rows.{terms, b}
@@ -32,7 +30,7 @@ P s = network_of 1 0 2 s (curve s)
 
 -- the record check's number and value: 0 and 0 where it accepts
 abbrev pub checked : (n m k s : ℕ) → List ℕ → List ℕ
-checked n m k s l = checked_number (check_of n m k s l) ∷ checked_value (check_of n m k s l) ∷ []
+checked n m k s l = answer_number (check_of n m k s l) ∷ checked_value (check_of n m k s l) ∷ []
 
 -- the number and value of a lookup, where the check accepts: 0 and the row or column
 abbrev pub found : Lookup → List ℕ

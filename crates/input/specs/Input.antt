@@ -1,7 +1,7 @@
 -- The input of program `layout` (document 01, 'Lettered examples').
-use Rattle.std.specs.Prelude.{ℕ, zero, suc, ◌+◌, ◌-◌, ◌/◌, ◌≡◌, cond, List, eqb, leb, ltb, length}
-use Rattle.refusals.specs.Refusals.{◌or_else◌, refuse_unless}
-use Rattle.refusals.specs.declared.Checked.{Checked}
+use Rattle.std.specs.Prelude.{ℕ, zero, suc, ◌+◌, ◌-◌, ◌/◌, ◌≡◌, cond, List, eqb, leb, ltb, length, Result, Ok}
+use Rattle.refusals.specs.Refusals.{◌or_else◌, refuse_unless, answer_if, Checked}
+use Rattle.refusals.specs.declared.Refusal.{Refusal}
 use Rattle.refusals.specs.declared.Refusal.TheVariants.{PastEnd, InputTooLong}
 use Rattle.records.specs.Fields.{kind_of}
 use Rattle.records.specs.Check.{check_of}
@@ -9,11 +9,7 @@ use Rattle.records.specs.Network.{network_of}
 use Rattle.numbering.specs.Blocks.{size, block_at, before}
 use Rattle.numbering.specs.Numbering.{row_many}
 use Rattle.numbering.specs.Layout.{layout_of, layout_cause, layout_rows}
-use Rattle.numbering.specs.Lookups.{pick_lookup, after_check, layout_answer}
 use Rattle.numbering.specs.declared.SocWrLayout.{SocWrLayout}
-use Rattle.numbering.specs.declared.LayoutAnswer.{LayoutAnswer}
-use Rattle.numbering.specs.declared.Lookup.{Lookup}
-use Rattle.numbering.specs.declared.Lookup.TheVariants as Lookup
 use Rattle.input.specs.declared.Counts.{Counts}
 
 -- how many of the count records from `at` on are of this kind before the first that is not
@@ -45,14 +41,12 @@ module _ (b : List ℕ) where
   abbrev pub input_check : Checked
   input_check = refuse_unless (leb (length b) 65536) InputTooLong or_else check_of buses_of branches_of generators_of rest_of b
 
-  abbrev pub input_layout : LayoutAnswer
-  input_layout = layout_answer input_check (layout_of (network_of buses_of branches_of generators_of rest_of b))
+  abbrev pub input_layout : Result SocWrLayout Refusal
+  input_layout = answer_if input_check (layout_of (network_of buses_of branches_of generators_of rest_of b))
 
 -- "Each line: block, first row, rows; lastly the total": the first row of a block, and its rows
-abbrev pub first_row : SocWrLayout → ℕ → Lookup
-first_row l b =
-    after_check (layout_cause l) (pick_lookup (leb b row_many) (Lookup.Number (before (layout_rows l) b)) (Lookup.Refused (PastEnd b)))
+abbrev pub first_row : SocWrLayout → ℕ → Result ℕ Refusal
+first_row l b = layout_cause l or_else refuse_unless (leb b row_many) (PastEnd b) or_else Ok (before (layout_rows l) b)
 
-abbrev pub row_count : SocWrLayout → ℕ → Lookup
-row_count l b =
-    after_check (layout_cause l) (pick_lookup (ltb b row_many) (Lookup.Number (size (block_at (layout_rows l) b))) (Lookup.Refused (PastEnd b)))
+abbrev pub row_count : SocWrLayout → ℕ → Result ℕ Refusal
+row_count l b = layout_cause l or_else refuse_unless (ltb b row_many) (PastEnd b) or_else Ok (size (block_at (layout_rows l) b))

@@ -1,15 +1,8 @@
 -- The check of `Selector::new` goes by document 01's order: 12, then 10. Assumes nothing.
-use Prim.Native.Nat.{ℕ, ◌+◌}
-use mathlib.Core.Path.{◌≡◌, refl}
-use mathlib.Core.Bool.{◌&&◌}
-use mathlib.Core.List.{List, [], ◌∷◌}
-use lib.Dec.{eqb, leb}
-use lib.ListN.{length}
-use lib.Ieee.{Float}
-use Rattle.refusals.specs.Refusals.{refuse_unless, room_for}
+use Rattle.std.proofs.Common.{ℕ, ◌+◌, ◌≡◌, refl, ◌&&◌, List, [], ◌∷◌, eqb, leb, length, Float}
+use Rattle.refusals.specs.Refusals.{refuse_unless, room_for, Checked}
 use Rattle.refusals.specs.Order.{sooner, by_order}
 use Rattle.refusals.specs.declared.Refusal.TheVariants.{BadLists, OutputTooShort}
-use Rattle.refusals.specs.declared.Checked.{Checked}
 use Rattle.refusals.proofs.Order.{InOrder, in_order, alone, next}
 use Rattle.interface.specs.Selectors.{selector_room, selector_check}
 
@@ -24,6 +17,9 @@ rooms_of items starts rows weights elements = next (alone _ _) (next (alone _ _)
 
 pub selector_in_order : (from_rows from_elements starts rows : List ℕ) (weights : List Float) (elements : List ℕ)
     → selector_check from_rows from_elements starts rows weights elements
-    ≡ by_order (refuse_unless (eqb (length from_elements) (length from_rows) && leb (length from_rows) 65536) BadLists ∷ rooms (length from_rows) (length starts) (length rows) (length weights) (length elements))
+    ≡ by_order (
+    refuse_unless (eqb (length from_elements) (length from_rows) && leb (length from_rows) 65536) BadLists
+    ∷ rooms (length from_rows) (length starts) (length rows) (length weights) (length elements)
+    )
 unfolding selector_check sooner
 selector_in_order from_rows from_elements starts rows weights elements = in_order (next (alone _ _) (rooms_of _ _ _ _ _) refl)

@@ -1,15 +1,13 @@
 -- `Selector::new` of sens/interface.rs as lists: item o is the rows and weights from starts o up to starts (o + 1).
-use Rattle.std.specs.Prelude.{ℕ, ◌+◌, ◌&&◌, List, eqb, leb, length, replicate, Float}
+use Rattle.std.specs.Prelude.{ℕ, ◌+◌, ◌&&◌, List, eqb, leb, length, replicate, Float, Result, Ok, Err}
 use Rattle.std.specs.Float.{binary64}
 use Rattle.std.specs.Float.Ieee.{of_bits}
 use Rattle.lists.specs.UpTo.{listed}
+use Rattle.refusals.specs.declared.Refusal.{Refusal}
 use Rattle.refusals.specs.declared.Refusal.TheVariants.{BadLists}
-use Rattle.refusals.specs.declared.Checked.{Checked}
-use Rattle.refusals.specs.declared.Checked.TheVariants.{Accepted, Refused}
-use Rattle.refusals.specs.Refusals.{◌or_else◌, refuse_unless, room_for, cause_number, cause_value}
+use Rattle.refusals.specs.Refusals.{◌or_else◌, refuse_unless, room_for, Checked, answer_value}
 use Rattle.interface.specs.Scales.{one64}
-use Rattle.interface.specs.declared.Selected.{Selected}
-use Rattle.interface.specs.declared.Selected.TheVariants as Selected
+use Rattle.interface.specs.declared.Items.{Items}
 
 -- "one row of weight 1.0 for each item": the starts are 0, 1, .., items
 abbrev pub unit_starts : ℕ → List ℕ
@@ -30,19 +28,13 @@ selector_check from_rows from_elements starts rows weights elements =
     or_else selector_room (length from_rows) (length starts) (length rows) (length weights) (length elements)
 
 -- "the sign is in the answer"
-unfoldable pub selected_if : Checked → ℕ → Float → Selected
-selected_if Accepted count sign = Selected.Items count sign
-selected_if (Refused cause) count sign = Selected.Refused cause
+abbrev pub items_of : ℕ → Float → Items
+items_of count sign = record { count = count; sign = sign }
 
--- the number, the value and the sign of an answer: 0, the count and the sign, or the cause's and 0.0
-abbrev pub selected_number : Selected → ℕ
-selected_number (Selected.Items count sign) = 0
-selected_number (Selected.Refused cause) = cause_number cause
+-- an answer's value and sign: the count and the sign, or the cause's and 0.0
+abbrev pub selected_value : Result Items Refusal → ℕ
+selected_value r = answer_value (λ i. i.count) r
 
-abbrev pub selected_value : Selected → ℕ
-selected_value (Selected.Items count sign) = count
-selected_value (Selected.Refused cause) = cause_value cause
-
-abbrev pub selected_sign : Selected → Float
-selected_sign (Selected.Items count sign) = sign
-selected_sign (Selected.Refused cause) = of_bits binary64 0
+abbrev pub selected_sign : Result Items Refusal → Float
+selected_sign (Ok i) = i.sign
+selected_sign (Err cause) = of_bits binary64 0

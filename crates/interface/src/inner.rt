@@ -1,19 +1,20 @@
 // What the selectors share: room for the lists, the starts and weights of one row an item, the answer.
 ghost use Rattle.std.specs.Prelude.{◌≡◌, ◌+◌, ◌≤◌, ◌<◌, length};
 ghost use Rattle.lists.specs.UpTo.{listed, overlay};
-ghost use Rattle.interface.specs.Selectors.{unit_starts, unit_weights, selector_room, selected_if};
+ghost use Rattle.interface.specs.Selectors.{unit_starts, unit_weights, selector_room, items_of};
 
-use crate::Selected;
-use lists::inner::fill_f64;
-use refusals::{Checked, or_else, room_for};
+use crate::Items;
+use lists::inner::fill;
+use refusals::{Refusal, room_for};
 
-// 0, 1, .., n - 1.
-pub fn count_up(d: &mut [u32], n: usize)
-    requires { (n ≤ length d.old) × (n ≤ 65537) }
-    ensures { d.new ≡ overlay (listed n (λ i. i)) d.old }
+// base, base + 1, .., n of them.
+pub fn count_from(d: &mut [u32], n: usize, base: u32)
+    requires { (n ≤ length d.old) × (n ≤ 131072) × (base ≤ 131072) }
+    ensures { d.new ≡ overlay (listed n (λ i. base + i)) d.old }
 {
+    // Kept: of what a loop over an adapter of `iter_mut` writes nothing is known afterwards.
     for i in 0..n {
-        d[i] = i as u32;
+        d[i] = base + i as u32;
     }
 }
 
@@ -24,36 +25,26 @@ pub fn selector_room(
     rows: usize,
     weights: usize,
     elements: usize,
-) -> Checked
+) -> Result<(), Refusal>
     requires { items < 9223372036854775808 }
     ensures { result ≡ selector_room items starts rows weights elements }
 {
-    let a = room_for(items + 1, starts);
-    let b = room_for(items, rows);
-    let c = room_for(items, weights);
-    let d = room_for(items, elements);
-    or_else(a, or_else(b, or_else(c, d)))
-}
-
-pub fn selected_if(check: Checked, count: u64, sign: f64) -> Selected
-    ensures { result ≡ selected_if check count sign }
-{
-    match check {
-        Checked::Accepted => Selected::Items { count, sign },
-        Checked::Refused(cause) => Selected::Refused(cause),
-    }
+    room_for(items + 1, starts)?;
+    room_for(items, rows)?;
+    room_for(items, weights)?;
+    room_for(items, elements)
 }
 
 // One row of weight 1.0 for each item, whose rows and elements stand in their lists already.
-pub fn unit_items(items: usize, sign: f64, starts: &mut [u32], weights: &mut [f64]) -> Selected
+pub fn unit_items(items: usize, sign: f64, starts: &mut [u32], weights: &mut [f64]) -> Items
     requires { (items ≤ 65536) × (items + 1 ≤ length starts.old) × (items ≤ length weights.old) }
-    ensures value { result ≡ Selected.Items items sign }
+    ensures value { result ≡ items_of items sign }
     ensures starts_after { starts.new ≡ overlay (unit_starts items) starts.old }
     ensures weights_after { weights.new ≡ overlay (unit_weights items) weights.old }
 {
-    count_up(starts, items + 1);
-    fill_f64(weights, items, 1.0);
-    Selected::Items {
+    count_from(starts, items + 1, 0);
+    fill(weights, items, 1.0);
+    Items {
         count: items as u64,
         sign,
     }

@@ -7,10 +7,7 @@ pub mod inner;
 mod scale;
 mod selector;
 
-pub use codes::{
-    AxisCode, ModeCode, OperandCode, ParameterCode, axis_at, mode_at, operand_at, parameter_at,
-};
-use refusals::Refusal;
+pub use codes::{axis_at, mode_at, operand_at, parameter_at};
 pub use scale::served_unit_scale;
 pub use selector::selector_new;
 
@@ -107,9 +104,9 @@ pub enum Mode {
     Auto,
 }
 
-// A selector's answer, its lists being lent: how many items it has, and the sign of what is read.
+// What a selector has, its lists being lent: how many items, and the sign of what is read.
 #[derive(Clone, Copy)]
-pub enum Selected {
-    Items { count: u64, sign: f64 },
-    Refused(Refusal),
+pub struct Items {
+    pub count: u64,
+    pub sign: f64,
 }

@@ -1,3 +1,4 @@
 pub mod Sized
+pub mod Counted
 pub mod Order
 pub mod Dims

@@ -1,10 +1,9 @@
 // Interface and combination.
-ghost use Rattle.std.specs.Prelude.{◌≡◌, map, ◌*◌, length};
+ghost use Rattle.std.specs.Prelude.{◌≡◌, map, ◌*◌, length, Ok};
 ghost use Rattle.lists.specs.Entries.{row_of, col_of, val_of};
-ghost use Rattle.refusals.specs.Refusals.{written_if, left_in};
+ghost use Rattle.refusals.specs.Refusals.{answer_if, left_in};
 ghost use Rattle.interface.specs.Codes.{parameter_at, operand_at, mode_at};
 ghost use Rattle.interface.specs.Selectors.{unit_starts, unit_weights, selector_check};
-ghost use Rattle.reading.specs.declared.Scalar.TheVariants.{Value};
 ghost use Rattle.sparse.specs.Sparse.{entries, items_of};
 ghost use Rattle.residual.specs.Magnitude.{max_abs};
 ghost use Rattle.residual.specs.Residual.{residual as residual_of};
@@ -12,36 +11,25 @@ ghost use Rattle.residual.specs.Checks.{residual_check};
 ghost use Rattle.adjoint.specs.Transposes.{transposed};
 ghost use Rattle.adjoint.specs.Selectors.{selector_matrix};
 ghost use Rattle.adjoint.specs.Checks.{transpose_check, matrix_check};
-ghost use Rattle.interface.specs.declared.codes.OperandCode.TheVariants as OperandCode;
 ghost use Rattle.kernel.specs.Answers.{WrittenAnswer};
 ghost use Rattle.kernel.specs.Scalars.{ScalarAnswer};
 ghost use Rattle.kernel.specs.Combinations.{scale_at, combine_check, combined};
 
-use crate::sens::items_answer;
-use crate::{Answer, Scalar, scalar_answer, written_answer};
-use interface::{
-    ModeCode, Operand, OperandCode, Parameter, ParameterCode, mode_at, operand_at, parameter_at,
-};
-use refusals::{Refusal, Written};
+use crate::{Answer, Scalar};
+use interface::{Mode, Operand, Parameter, mode_at, operand_at, parameter_at};
+use refusals::Refusal;
 
-// The scale of an operand that a code names, by the parameter of another.
-fn scale_of(o: Operand, parameter: ParameterCode, base: f64) -> reading::Scalar
-    ensures { result ≡ scale_at (OperandCode.Names o) parameter base }
-{
-    match parameter {
-        ParameterCode::Names(p) => {
-            reading::Scalar::Value(interface::served_unit_scale(o, p, base))
-        }
-        ParameterCode::NamesNothing => reading::Scalar::Refused(Refusal::NotInSocWr),
-    }
-}
-
-fn scale_at(operand: OperandCode, parameter: ParameterCode, base: f64) -> reading::Scalar
+// The scale of the operand and the parameter that codes name.
+fn scale_at(
+    operand: Option<Operand>,
+    parameter: Option<Parameter>,
+    base: f64,
+) -> Result<f64, Refusal>
     ensures { result ≡ scale_at operand parameter base }
 {
-    match operand {
-        OperandCode::Names(o) => scale_of(o, parameter, base),
-        OperandCode::NamesNothing => reading::Scalar::Refused(Refusal::NotInSocWr),
+    match (operand, parameter) {
+        (Some(o), Some(p)) => Ok(interface::served_unit_scale(o, p, base)),
+        _ => Err(Refusal::NotInSocWr),
     }
 }
 
@@ -50,7 +38,7 @@ pub fn socwr_unit_scale(operand: u64, parameter: u64, base: f64) -> Scalar
 {
     let o = operand_at(operand);
     let p = parameter_at(parameter);
-    scalar_answer(scale_at(o, p, base))
+    Scalar::from(scale_at(o, p, base))
 }
 
 // The caller gives the sign where it combines, so that here any will do.
@@ -62,7 +50,7 @@ pub fn socwr_selector_new(
     weights: &mut [f64],
     elements: &mut [u32],
 ) -> Answer
-    ensures written_answer { WrittenAnswer (written_if (selector_check from_rows.now from_elements.now starts.old rows.old weights.old elements.old) (length from_rows.now)) result }
+    ensures written_answer { WrittenAnswer (answer_if (selector_check from_rows.now from_elements.now starts.old rows.old weights.old elements.old) (length from_rows.now)) result }
     ensures starts_after { starts.new ≡ left_in (selector_check from_rows.now from_elements.now starts.old rows.old weights.old elements.old) (unit_starts (length from_rows.now)) starts.old }
     ensures rows_after { rows.new ≡ left_in (selector_check from_rows.now from_elements.now starts.old rows.old weights.old elements.old) from_rows.now rows.old }
     ensures weights_after { weights.new ≡ left_in (selector_check from_rows.now from_elements.now starts.old rows.old weights.old elements.old) (unit_weights (length from_rows.now)) weights.old }
@@ -77,13 +65,13 @@ pub fn socwr_selector_new(
         weights,
         elements,
     );
-    items_answer(a)
+    Answer::from(a)
 }
 
 pub fn socwr_max_abs(matrix: &[f64]) -> Scalar
-    ensures { ScalarAnswer (Value (max_abs matrix.now)) result }
+    ensures { ScalarAnswer (Ok (max_abs matrix.now)) result }
 {
-    scalar_answer(reading::Scalar::Value(residual::max_abs(matrix)))
+    Scalar::from(Ok(residual::max_abs(matrix)))
 }
 
 pub fn socwr_residual(
@@ -97,7 +85,7 @@ pub fn socwr_residual(
     answer: &[f64],
     out: &mut [f64],
 ) -> Answer
-    ensures written_answer { WrittenAnswer (written_if (residual_check dim columns rows.now cols.now values.now rhs.now answer.now (length out.old)) (dim * columns)) result }
+    ensures written_answer { WrittenAnswer (answer_if (residual_check dim columns rows.now cols.now values.now rhs.now answer.now (length out.old)) (dim * columns)) result }
     ensures out_after { out.new ≡ left_in (residual_check dim columns rows.now cols.now values.now rhs.now answer.now (length out.old)) (residual_of dim columns (entries rows.now cols.now values.now) eps rhs.now answer.now) out.old }
 {
     let w = residual::residual(
@@ -111,7 +99,7 @@ pub fn socwr_residual(
         answer,
         out,
     );
-    written_answer(w)
+    Answer::from(w)
 }
 
 pub fn socwr_transpose(
@@ -123,7 +111,7 @@ pub fn socwr_transpose(
     out_cols: &mut [u32],
     out_values: &mut [f64],
 ) -> Answer
-    ensures written_answer { WrittenAnswer (written_if (transpose_check dim rows.now cols.now values.now (length out_rows.old) (length out_cols.old) (length out_values.old)) (length rows.now)) result }
+    ensures written_answer { WrittenAnswer (answer_if (transpose_check dim rows.now cols.now values.now (length out_rows.old) (length out_cols.old) (length out_values.old)) (length rows.now)) result }
     ensures out_rows_after { out_rows.new ≡ left_in (transpose_check dim rows.now cols.now values.now (length out_rows.old) (length out_cols.old) (length out_values.old)) (map row_of (transposed (entries rows.now cols.now values.now))) out_rows.old }
     ensures out_cols_after { out_cols.new ≡ left_in (transpose_check dim rows.now cols.now values.now (length out_rows.old) (length out_cols.old) (length out_values.old)) (map col_of (transposed (entries rows.now cols.now values.now))) out_cols.old }
     ensures out_values_after { out_values.new ≡ left_in (transpose_check dim rows.now cols.now values.now (length out_rows.old) (length out_cols.old) (length out_values.old)) (map val_of (transposed (entries rows.now cols.now values.now))) out_values.old }
@@ -137,7 +125,7 @@ pub fn socwr_transpose(
         out_cols,
         out_values,
     );
-    written_answer(w)
+    Answer::from(w)
 }
 
 pub fn socwr_selector_matrix(
@@ -147,16 +135,16 @@ pub fn socwr_selector_matrix(
     weights: &[f64],
     out: &mut [f64],
 ) -> Answer
-    ensures written_answer { WrittenAnswer (written_if (matrix_check dim starts.now rows.now weights.now (length out.old)) (dim * items_of starts.now)) result }
+    ensures written_answer { WrittenAnswer (answer_if (matrix_check dim starts.now rows.now weights.now (length out.old)) (dim * items_of starts.now)) result }
     ensures out_after { out.new ≡ left_in (matrix_check dim starts.now rows.now weights.now (length out.old)) (selector_matrix dim starts.now rows.now weights.now) out.old }
 {
     let w = adjoint::selector_matrix(dim as usize, starts, rows, weights, out);
-    written_answer(w)
+    Answer::from(w)
 }
 
 // The combination by a mode that a code names, or by none.
 fn combine_at(
-    named: ModeCode,
+    named: Option<Mode>,
     code: u64,
     dim: usize,
     columns: usize,
@@ -167,15 +155,15 @@ fn combine_at(
     rhs: &[f64],
     solution: &[f64],
     out: &mut [f64],
-) -> Written
-    ensures value { result ≡ written_if (combine_check named code dim columns starts.now rows.now weights.now rhs.now solution.now (length out.old)) (items_of starts.now * columns) }
+) -> Result<u64, Refusal>
+    ensures value { result ≡ answer_if (combine_check named code dim columns starts.now rows.now weights.now rhs.now solution.now (length out.old)) (items_of starts.now * columns) }
     ensures out_after { out.new ≡ left_in (combine_check named code dim columns starts.now rows.now weights.now rhs.now solution.now (length out.old)) (combined named dim columns starts.now rows.now weights.now sign rhs.now solution.now) out.old }
 {
     match named {
-        ModeCode::Names(mode) => combination::forward_adjoint(
+        Some(mode) => combination::forward_adjoint(
             mode, dim, columns, starts, rows, weights, sign, rhs, solution, out,
         ),
-        ModeCode::NamesNothing => Written::Refused(Refusal::PastEnd(code)),
+        None => Err(Refusal::PastEnd(code)),
     }
 }
 
@@ -191,7 +179,7 @@ pub fn socwr_combine(
     solution: &[f64],
     out: &mut [f64],
 ) -> Answer
-    ensures written_answer { WrittenAnswer (written_if (combine_check (mode_at mode) mode dim columns starts.now rows.now weights.now rhs.now solution.now (length out.old)) (items_of starts.now * columns)) result }
+    ensures written_answer { WrittenAnswer (answer_if (combine_check (mode_at mode) mode dim columns starts.now rows.now weights.now rhs.now solution.now (length out.old)) (items_of starts.now * columns)) result }
     ensures out_after { out.new ≡ left_in (combine_check (mode_at mode) mode dim columns starts.now rows.now weights.now rhs.now solution.now (length out.old)) (combined (mode_at mode) dim columns starts.now rows.now weights.now sign rhs.now solution.now) out.old }
 {
     let named = mode_at(mode);
@@ -208,5 +196,5 @@ pub fn socwr_combine(
         solution,
         out,
     );
-    written_answer(w)
+    Answer::from(w)
 }

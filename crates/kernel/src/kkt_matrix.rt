@@ -1,14 +1,14 @@
 // The entries of the KKT matrix.
 ghost use Rattle.std.specs.Prelude.{◌≡◌, map, length};
 ghost use Rattle.lists.specs.Entries.{row_of, col_of, val_of};
-ghost use Rattle.refusals.specs.Refusals.{written_if, left_in};
+ghost use Rattle.refusals.specs.Refusals.{answer_if, left_in};
 ghost use Rattle.records.specs.Network.{network_of};
 ghost use Rattle.kkt.specs.Kkt.{kkt};
 ghost use Rattle.demand3.specs.Demand3.{Demanded};
 ghost use Rattle.entries.specs.Answer.{kkt_check};
 ghost use Rattle.kernel.specs.Answers.{WrittenAnswer};
 
-use crate::{Answer, written_answer};
+use crate::Answer;
 
 pub fn socwr_kkt_entries(
     n: u64,
@@ -22,7 +22,7 @@ pub fn socwr_kkt_entries(
     cols: &mut [u32],
     values: &mut [f64],
 ) -> Answer
-    ensures written_answer { WrittenAnswer (written_if (kkt_check n m k s records.now x.now z.now rows.old cols.old values.old) (length (kkt (network_of n m k s records.now) x.now z.now))) result }
+    ensures written_answer { WrittenAnswer (answer_if (kkt_check n m k s records.now x.now z.now rows.old cols.old values.old) (length (kkt (network_of n m k s records.now) x.now z.now))) result }
     ensures rows_after { rows.new ≡ left_in (kkt_check n m k s records.now x.now z.now rows.old cols.old values.old) (map row_of (kkt (network_of n m k s records.now) x.now z.now)) rows.old }
     ensures cols_after { cols.new ≡ left_in (kkt_check n m k s records.now x.now z.now rows.old cols.old values.old) (map col_of (kkt (network_of n m k s records.now) x.now z.now)) cols.old }
     ensures values_after { values.new ≡ left_in (kkt_check n m k s records.now x.now z.now rows.old cols.old values.old) (map val_of (kkt (network_of n m k s records.now) x.now z.now)) values.old }
@@ -31,5 +31,5 @@ pub fn socwr_kkt_entries(
     let w = entries::kkt_entries(
         n as usize, m as usize, k as usize, s as usize, records, x, z, rows, cols, values,
     );
-    written_answer(w)
+    Answer::from(w)
 }

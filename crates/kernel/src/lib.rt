@@ -1,13 +1,11 @@
 // The entries for callers in C, one module for each part of the header include/socwr.h. They only pass on what the libraries answer.
 #![tactic(auto)]
 
-ghost use Rattle.std.specs.Prelude.{◌≡◌};
-ghost use Rattle.refusals.specs.Refusals.{checked_number, checked_value, written_number, written_value};
-ghost use Rattle.reading.specs.Reading.{scalar_number, scalar_value, scalar_result};
-ghost use Rattle.kernel.specs.Answers.{CheckedAnswer, WrittenAnswer};
+ghost use Rattle.kernel.specs.Answers.{CauseAnswer, CheckedAnswer, WrittenAnswer, LookupAnswer, ElementAnswer};
 ghost use Rattle.kernel.specs.Scalars.{ScalarAnswer};
 
-use refusals::{Checked, Written, number_of, value_of};
+use elements::ElementId;
+use refusals::{Refusal, number_of, value_of};
 
 pub mod combinations;
 pub mod kkt_matrix;
@@ -33,93 +31,91 @@ pub struct Scalar {
     pub result: f64,
 }
 
-pub fn checked_number(c: Checked) -> u64
-    ensures { result ≡ checked_number c }
-{
-    match c {
-        Checked::Accepted => 0,
-        Checked::Refused(cause) => number_of(cause),
+impl From<Refusal> for Answer {
+    ghost from_gives = { CauseAnswer };
+
+    fn from(cause: Refusal) -> Answer {
+        Answer {
+            number: number_of(cause),
+            value: value_of(cause),
+        }
     }
 }
 
-pub fn checked_value(c: Checked) -> u64
-    ensures { result ≡ checked_value c }
-{
-    match c {
-        Checked::Accepted => 0,
-        Checked::Refused(cause) => value_of(cause),
+impl From<Result<(), Refusal>> for Answer {
+    ghost from_gives = { CheckedAnswer };
+
+    fn from(check: Result<(), Refusal>) -> Answer {
+        match check {
+            Ok(()) => Answer {
+                number: 0,
+                value: 0,
+            },
+            Err(cause) => Answer::from(cause),
+        }
     }
 }
 
-pub fn written_number(w: Written) -> u64
-    ensures { result ≡ written_number w }
-{
-    match w {
-        Written::Count(_) => 0,
-        Written::Refused(cause) => number_of(cause),
+impl From<Result<u64, Refusal>> for Answer {
+    ghost from_gives = { WrittenAnswer };
+
+    fn from(written: Result<u64, Refusal>) -> Answer {
+        match written {
+            Ok(value) => Answer { number: 0, value },
+            Err(cause) => Answer::from(cause),
+        }
     }
 }
 
-pub fn written_value(w: Written) -> u64
-    ensures { result ≡ written_value w }
-{
-    match w {
-        Written::Count(count) => count,
-        Written::Refused(cause) => value_of(cause),
+// None is 2^64 - 1.
+impl From<Result<Option<u32>, Refusal>> for Answer {
+    ghost from_gives = { LookupAnswer };
+
+    fn from(lookup: Result<Option<u32>, Refusal>) -> Answer {
+        match lookup {
+            Ok(number) => Answer {
+                number: 0,
+                value: number.map_or(u64::MAX, u64::from),
+            },
+            Err(cause) => Answer::from(cause),
+        }
     }
 }
 
-pub fn checked_answer(c: Checked) -> Answer
-    ensures { CheckedAnswer c result }
-{
-    Answer {
-        number: checked_number(c),
-        value: checked_value(c),
+impl From<Result<ElementId, Refusal>> for Answer {
+    ghost from_gives = { ElementAnswer };
+
+    fn from(element: Result<ElementId, Refusal>) -> Answer {
+        match element {
+            Ok(id) => Answer {
+                number: 0,
+                value: match id {
+                    ElementId::Bus(id) => u64::from(id),
+                    ElementId::Branch(id) => u64::from(id),
+                    ElementId::Generator(id) => u64::from(id),
+                    ElementId::Constraint(index) => index,
+                },
+            },
+            Err(cause) => Answer::from(cause),
+        }
     }
 }
 
-pub fn written_answer(w: Written) -> Answer
-    ensures { WrittenAnswer w result }
-{
-    Answer {
-        number: written_number(w),
-        value: written_value(w),
-    }
-}
+impl From<Result<f64, Refusal>> for Scalar {
+    ghost from_gives = { ScalarAnswer };
 
-pub fn scalar_number(a: reading::Scalar) -> u64
-    ensures { result ≡ scalar_number a }
-{
-    match a {
-        reading::Scalar::Value(_) => 0,
-        reading::Scalar::Refused(cause) => number_of(cause),
-    }
-}
-
-pub fn scalar_value(a: reading::Scalar) -> u64
-    ensures { result ≡ scalar_value a }
-{
-    match a {
-        reading::Scalar::Value(_) => 0,
-        reading::Scalar::Refused(cause) => value_of(cause),
-    }
-}
-
-pub fn scalar_result(a: reading::Scalar) -> f64
-    ensures { result ≡ scalar_result a }
-{
-    match a {
-        reading::Scalar::Value(result) => result,
-        reading::Scalar::Refused(_) => 0.0,
-    }
-}
-
-pub fn scalar_answer(a: reading::Scalar) -> Scalar
-    ensures { ScalarAnswer a result }
-{
-    Scalar {
-        number: scalar_number(a),
-        value: scalar_value(a),
-        result: scalar_result(a),
+    fn from(scalar: Result<f64, Refusal>) -> Scalar {
+        match scalar {
+            Ok(result) => Scalar {
+                number: 0,
+                value: 0,
+                result,
+            },
+            Err(cause) => Scalar {
+                number: number_of(cause),
+                value: value_of(cause),
+                result: 0.0,
+            },
+        }
     }
 }

@@ -1,25 +1,22 @@
 // Records and numbering.
-ghost use Rattle.std.specs.Prelude.{◌≡◌};
-ghost use Rattle.refusals.specs.Refusals.{written_if, left_in};
-ghost use Rattle.refusals.specs.declared.Checked.TheVariants as Checked;
+ghost use Rattle.std.specs.Prelude.{◌≡◌, Ok};
+ghost use Rattle.refusals.specs.Refusals.{passed, answer_if, left_in};
 ghost use Rattle.records.specs.Check.{check_of};
 ghost use Rattle.records.specs.Network.{network_of};
 ghost use Rattle.numbering.specs.Blocks.{key};
-ghost use Rattle.numbering.specs.Numbering.{SameKey, cone_lengths};
+ghost use Rattle.numbering.specs.Numbering.{column_key, row_key, cone_lengths};
 ghost use Rattle.numbering.specs.Layout.{layout_of};
 ghost use Rattle.numbering.specs.Laid.{net_of, Laid};
-ghost use Rattle.numbering.specs.Lookups.{new_layout, lookup_number, lookup_value, cones_check, cone_count};
-ghost use Rattle.numbering.specs.declared.LayoutAnswer.TheVariants.{Layout};
-ghost use Rattle.names.specs.Named.{column_answer_number, column_answer_value, column_named, row_answer_number, row_answer_value, row_named};
+ghost use Rattle.numbering.specs.Lookups.{new_layout, cones_check, cone_count};
+ghost use Rattle.names.specs.Named.{column_named, row_named};
 ghost use Rattle.lookups.specs.Lookups.{column_lookup, row_lookup};
-ghost use Rattle.kernel.specs.Answers.{CheckedAnswer, WrittenAnswer, LookupAnswer, SizesAnswer, NoSizes, column_answer_key, row_answer_key, NameAnswer};
+ghost use Rattle.kernel.specs.Answers.{CheckedAnswer, WrittenAnswer, LookupAnswer, SizesAnswer, NoSizes, NameAnswer};
 
-use crate::{Answer, checked_answer, checked_number, checked_value, written_answer};
+use crate::Answer;
 use lookups::numbers;
-use names::{ColumnAnswer, RowAnswer, keys, named};
-use numbering::layout::check_layout;
-use numbering::{Key, Lookup, SocWrLayout};
-use refusals::{Checked, is_refused, number_of, value_of};
+use names::{keys, named};
+use numbering::{Key, SocWrLayout};
+use refusals::{Refusal, number_of, value_of};
 
 #[repr(C)]
 #[derive(Clone, Copy)]
@@ -47,7 +44,7 @@ pub struct Name {
 pub fn socwr_check_records(n: u64, m: u64, k: u64, s: u64, records: &[u8]) -> Answer
     ensures { CheckedAnswer (check_of n m k s records.now) result }
 {
-    checked_answer(record_check::check_records(
+    Answer::from(record_check::check_records(
         n as usize, m as usize, k as usize, s as usize, records,
     ))
 }
@@ -55,7 +52,7 @@ pub fn socwr_check_records(n: u64, m: u64, k: u64, s: u64, records: &[u8]) -> An
 // The sizes of accepted records, from their layout.
 fn sizes_of(l: SocWrLayout, records: &[u8]) -> Sizes
     requires { Laid l records.now }
-    ensures { SizesAnswer (Layout l) Checked.Accepted (net_of l records.now) result }
+    ensures { SizesAnswer (Ok l) passed (net_of l records.now) result }
 {
     Sizes {
         number: 0,
@@ -69,12 +66,12 @@ fn sizes_of(l: SocWrLayout, records: &[u8]) -> Sizes
     }
 }
 
-fn no_sizes(c: Checked) -> Sizes
-    ensures { NoSizes c result }
+fn no_sizes(cause: Refusal) -> Sizes
+    ensures { NoSizes cause result }
 {
     Sizes {
-        number: checked_number(c),
-        value: checked_value(c),
+        number: number_of(cause),
+        value: value_of(cause),
         n_eq: 0,
         n_ineq: 0,
         nvar: 0,
@@ -87,40 +84,9 @@ fn no_sizes(c: Checked) -> Sizes
 pub fn socwr_layout_new(n: u64, m: u64, k: u64, s: u64, records: &[u8]) -> Sizes
     ensures { SizesAnswer (new_layout n m k s records.now) (check_of n m k s records.now) (network_of n m k s records.now) result }
 {
-    let checked = check_layout(n as usize, m as usize, k as usize, s as usize, records, 0);
-    let check = checked.check;
-    if is_refused(check) {
-        return no_sizes(check);
-    }
-    sizes_of(checked.layout, records)
-}
-
-fn lookup_number(l: Lookup) -> u64
-    ensures { result ≡ lookup_number l }
-{
-    match l {
-        Lookup::Number(_) => 0,
-        Lookup::Absent => 0,
-        Lookup::Refused(cause) => number_of(cause),
-    }
-}
-
-fn lookup_value(l: Lookup) -> u64
-    ensures { result ≡ lookup_value l }
-{
-    match l {
-        Lookup::Number(number) => number as u64,
-        Lookup::Absent => 18446744073709551615,
-        Lookup::Refused(cause) => value_of(cause),
-    }
-}
-
-fn lookup_answer(l: Lookup) -> Answer
-    ensures { LookupAnswer l result }
-{
-    Answer {
-        number: lookup_number(l),
-        value: lookup_value(l),
+    match SocWrLayout::new(n as usize, m as usize, k as usize, s as usize, records) {
+        Ok(l) => sizes_of(l, records),
+        Err(cause) => no_sizes(cause),
     }
 }
 
@@ -135,7 +101,7 @@ pub fn socwr_column_number(
 ) -> Answer
     ensures { LookupAnswer (column_lookup n m k s records.now (key block index 0)) result }
 {
-    lookup_answer(numbers::column_number_at(
+    Answer::from(numbers::column_number_at(
         n as usize,
         m as usize,
         k as usize,
@@ -159,7 +125,7 @@ pub fn socwr_row_number(
 ) -> Answer
     ensures { LookupAnswer (row_lookup n m k s records.now (key block index place)) result }
 {
-    lookup_answer(numbers::row_number_at(
+    Answer::from(numbers::row_number_at(
         n as usize,
         m as usize,
         k as usize,
@@ -171,84 +137,33 @@ pub fn socwr_row_number(
     ))
 }
 
-fn column_answer_number(a: ColumnAnswer) -> u64
-    ensures { result ≡ column_answer_number a }
-{
-    match a {
-        ColumnAnswer::Column(_) => 0,
-        ColumnAnswer::Refused(cause) => number_of(cause),
-    }
-}
+impl From<Result<Key, Refusal>> for Name {
+    ghost from_gives = { NameAnswer (λ x. x) };
 
-fn column_answer_value(a: ColumnAnswer) -> u64
-    ensures { result ≡ column_answer_value a }
-{
-    match a {
-        ColumnAnswer::Column(_) => 0,
-        ColumnAnswer::Refused(cause) => value_of(cause),
-    }
-}
-
-fn column_answer_key(a: ColumnAnswer) -> Key
-    ensures { SameKey result (column_answer_key a) }
-{
-    match a {
-        ColumnAnswer::Column(name) => keys::column_key(name),
-        ColumnAnswer::Refused(_) => Key {
-            block: 0,
-            item: 0,
-            place: 0,
-        },
-    }
-}
-
-fn row_answer_number(a: RowAnswer) -> u64
-    ensures { result ≡ row_answer_number a }
-{
-    match a {
-        RowAnswer::Row(_) => 0,
-        RowAnswer::Refused(cause) => number_of(cause),
-    }
-}
-
-fn row_answer_value(a: RowAnswer) -> u64
-    ensures { result ≡ row_answer_value a }
-{
-    match a {
-        RowAnswer::Row(_) => 0,
-        RowAnswer::Refused(cause) => value_of(cause),
-    }
-}
-
-fn row_answer_key(a: RowAnswer) -> Key
-    ensures { SameKey result (row_answer_key a) }
-{
-    match a {
-        RowAnswer::Row(name) => keys::row_key(name),
-        RowAnswer::Refused(_) => Key {
-            block: 0,
-            item: 0,
-            place: 0,
-        },
-    }
-}
-
-fn name_of(number: u64, value: u64, x: Key) -> Name
-    ensures { NameAnswer number value x result }
-{
-    Name {
-        number,
-        value,
-        block: x.block as u64,
-        index: x.item as u64,
-        place: x.place as u64,
+    fn from(key: Result<Key, Refusal>) -> Name {
+        match key {
+            Ok(x) => Name {
+                number: 0,
+                value: 0,
+                block: x.block as u64,
+                index: x.item as u64,
+                place: x.place as u64,
+            },
+            Err(cause) => Name {
+                number: number_of(cause),
+                value: value_of(cause),
+                block: 0,
+                index: 0,
+                place: 0,
+            },
+        }
     }
 }
 
 pub fn socwr_column_name(n: u64, m: u64, k: u64, s: u64, records: &[u8], number: u64) -> Name
-    ensures { NameAnswer (column_answer_number (column_named n m k s records.now number)) (column_answer_value (column_named n m k s records.now number)) (column_answer_key (column_named n m k s records.now number)) result }
+    ensures { NameAnswer column_key (column_named n m k s records.now number) result }
 {
-    let a = named::column_name(
+    let named = named::column_name(
         n as usize,
         m as usize,
         k as usize,
@@ -256,17 +171,13 @@ pub fn socwr_column_name(n: u64, m: u64, k: u64, s: u64, records: &[u8], number:
         records,
         number as usize,
     );
-    name_of(
-        column_answer_number(a),
-        column_answer_value(a),
-        column_answer_key(a),
-    )
+    Name::from(named.map(keys::column_key))
 }
 
 pub fn socwr_row_name(n: u64, m: u64, k: u64, s: u64, records: &[u8], number: u64) -> Name
-    ensures { NameAnswer (row_answer_number (row_named n m k s records.now number)) (row_answer_value (row_named n m k s records.now number)) (row_answer_key (row_named n m k s records.now number)) result }
+    ensures { NameAnswer row_key (row_named n m k s records.now number) result }
 {
-    let a = named::row_name(
+    let named = named::row_name(
         n as usize,
         m as usize,
         k as usize,
@@ -274,14 +185,14 @@ pub fn socwr_row_name(n: u64, m: u64, k: u64, s: u64, records: &[u8], number: u6
         records,
         number as usize,
     );
-    name_of(row_answer_number(a), row_answer_value(a), row_answer_key(a))
+    Name::from(named.map(keys::row_key))
 }
 
 pub fn socwr_cones(n: u64, m: u64, k: u64, s: u64, records: &[u8], lengths: &mut [u32]) -> Answer
-    ensures written_answer { WrittenAnswer (written_if (cones_check (check_of n m k s records.now) (layout_of (network_of n m k s records.now)) lengths.old) (cone_count (layout_of (network_of n m k s records.now)))) result }
+    ensures written_answer { WrittenAnswer (answer_if (cones_check (check_of n m k s records.now) (layout_of (network_of n m k s records.now)) lengths.old) (cone_count (layout_of (network_of n m k s records.now)))) result }
     ensures lengths_after { lengths.new ≡ left_in (cones_check (check_of n m k s records.now) (layout_of (network_of n m k s records.now)) lengths.old) (cone_lengths (network_of n m k s records.now)) lengths.old }
 {
-    written_answer(numbering::cones::cones(
+    Answer::from(numbering::cones::cones(
         n as usize, m as usize, k as usize, s as usize, records, lengths,
     ))
 }

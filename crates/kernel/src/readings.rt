@@ -1,12 +1,12 @@
 // Reading.
 ghost use Rattle.std.specs.Prelude.{◌≡◌, ◌+◌, length};
-ghost use Rattle.refusals.specs.Refusals.{written_if, left_in};
+ghost use Rattle.refusals.specs.Refusals.{answer_if, left_in};
 ghost use Rattle.records.specs.Network.{network_of};
 ghost use Rattle.reading.specs.Reading.{reading_check, prices_check, price_list, code_answer};
 ghost use Rattle.kernel.specs.Answers.{CheckedAnswer, WrittenAnswer};
 ghost use Rattle.kernel.specs.Scalars.{ScalarAnswer};
 
-use crate::{Answer, Scalar, checked_answer, scalar_answer, written_answer};
+use crate::{Answer, Scalar};
 
 pub fn socwr_reading_check(
     n: u64,
@@ -19,7 +19,7 @@ pub fn socwr_reading_check(
 ) -> Answer
     ensures { CheckedAnswer (reading_check n m k s records.now x.now z.now) result }
 {
-    checked_answer(reading::reading_check(
+    Answer::from(reading::reading_check(
         n as usize, m as usize, k as usize, s as usize, records, x, z,
     ))
 }
@@ -33,10 +33,10 @@ pub fn socwr_prices(
     z: &[f64],
     prices: &mut [f64],
 ) -> Answer
-    ensures written_answer { WrittenAnswer (written_if (prices_check n m k s records.now z.now (length prices.old)) (n + n)) result }
+    ensures written_answer { WrittenAnswer (answer_if (prices_check n m k s records.now z.now (length prices.old)) (n + n)) result }
     ensures prices_after { prices.new ≡ left_in (prices_check n m k s records.now z.now (length prices.old)) (price_list (network_of n m k s records.now) z.now) prices.old }
 {
-    written_answer(reading::prices(
+    Answer::from(reading::prices(
         n as usize, m as usize, k as usize, s as usize, records, z, prices,
     ))
 }
@@ -53,7 +53,7 @@ pub fn socwr_objective(
 ) -> Scalar
     ensures { ScalarAnswer (code_answer n m k s records.now objective x.now solver) result }
 {
-    scalar_answer(reading::objective_of_code(
+    Scalar::from(reading::objective_of_code(
         n as usize, m as usize, k as usize, s as usize, records, objective, x, solver,
     ))
 }

@@ -1,7 +1,7 @@
 // The entries of the KKT matrix.
 ghost use Rattle.std.specs.Prelude.{◌≡◌, map, length};
 ghost use Rattle.lists.specs.Entries.{row_of, col_of, val_of};
-ghost use Rattle.refusals.specs.Refusals.{written_if, left_in};
+ghost use Rattle.refusals.specs.Refusals.{answer_if, left_in};
 ghost use Rattle.records.specs.Network.{network_of};
 ghost use Rattle.kkt.specs.Kkt.{kkt};
 ghost use Rattle.demand3.specs.Demand3.{Demanded};
@@ -23,7 +23,7 @@ pub extern "C" fn socwr_kkt_entries(
     cols: &mut [u32],
     values: &mut [f64],
 ) -> Answer
-    ensures written_answer { WrittenAnswer (written_if (kkt_check n m k s records.now x.now z.now rows.old cols.old values.old) (length (kkt (network_of n m k s records.now) x.now z.now))) result }
+    ensures written_answer { WrittenAnswer (answer_if (kkt_check n m k s records.now x.now z.now rows.old cols.old values.old) (length (kkt (network_of n m k s records.now) x.now z.now))) result }
     ensures rows_after { rows.new ≡ left_in (kkt_check n m k s records.now x.now z.now rows.old cols.old values.old) (map row_of (kkt (network_of n m k s records.now) x.now z.now)) rows.old }
     ensures cols_after { cols.new ≡ left_in (kkt_check n m k s records.now x.now z.now rows.old cols.old values.old) (map col_of (kkt (network_of n m k s records.now) x.now z.now)) cols.old }
     ensures values_after { values.new ≡ left_in (kkt_check n m k s records.now x.now z.now rows.old cols.old values.old) (map val_of (kkt (network_of n m k s records.now) x.now z.now)) values.old }

@@ -1,15 +1,15 @@
 // Records and numbering.
 ghost use Rattle.std.specs.Prelude.{◌≡◌};
-ghost use Rattle.refusals.specs.Refusals.{written_if, left_in};
+ghost use Rattle.refusals.specs.Refusals.{answer_if, left_in};
 ghost use Rattle.records.specs.Check.{check_of};
 ghost use Rattle.records.specs.Network.{network_of};
 ghost use Rattle.numbering.specs.Blocks.{key};
-ghost use Rattle.numbering.specs.Numbering.{cone_lengths};
+ghost use Rattle.numbering.specs.Numbering.{column_key, row_key, cone_lengths};
 ghost use Rattle.numbering.specs.Layout.{layout_of};
 ghost use Rattle.numbering.specs.Lookups.{new_layout, cones_check, cone_count};
-ghost use Rattle.names.specs.Named.{column_answer_number, column_answer_value, column_named, row_answer_number, row_answer_value, row_named};
+ghost use Rattle.names.specs.Named.{column_named, row_named};
 ghost use Rattle.lookups.specs.Lookups.{column_lookup, row_lookup};
-ghost use Rattle.kernel.specs.Answers.{CheckedAnswer, WrittenAnswer, LookupAnswer, SizesAnswer, column_answer_key, row_answer_key, NameAnswer};
+ghost use Rattle.kernel.specs.Answers.{CheckedAnswer, WrittenAnswer, LookupAnswer, SizesAnswer, NameAnswer};
 
 use kernel::numbers::{Name, Sizes};
 use kernel::{Answer, numbers};
@@ -68,7 +68,7 @@ pub extern "C" fn socwr_column_name(
     records: &[u8],
     number: u64,
 ) -> Name
-    ensures { NameAnswer (column_answer_number (column_named n m k s records.now number)) (column_answer_value (column_named n m k s records.now number)) (column_answer_key (column_named n m k s records.now number)) result }
+    ensures { NameAnswer column_key (column_named n m k s records.now number) result }
 {
     numbers::socwr_column_name(n, m, k, s, records, number)
 }
@@ -82,7 +82,7 @@ pub extern "C" fn socwr_row_name(
     records: &[u8],
     number: u64,
 ) -> Name
-    ensures { NameAnswer (row_answer_number (row_named n m k s records.now number)) (row_answer_value (row_named n m k s records.now number)) (row_answer_key (row_named n m k s records.now number)) result }
+    ensures { NameAnswer row_key (row_named n m k s records.now number) result }
 {
     numbers::socwr_row_name(n, m, k, s, records, number)
 }
@@ -96,7 +96,7 @@ pub extern "C" fn socwr_cones(
     records: &[u8],
     lengths: &mut [u32],
 ) -> Answer
-    ensures written_answer { WrittenAnswer (written_if (cones_check (check_of n m k s records.now) (layout_of (network_of n m k s records.now)) lengths.old) (cone_count (layout_of (network_of n m k s records.now)))) result }
+    ensures written_answer { WrittenAnswer (answer_if (cones_check (check_of n m k s records.now) (layout_of (network_of n m k s records.now)) lengths.old) (cone_count (layout_of (network_of n m k s records.now)))) result }
     ensures lengths_after { lengths.new ≡ left_in (cones_check (check_of n m k s records.now) (layout_of (network_of n m k s records.now)) lengths.old) (cone_lengths (network_of n m k s records.now)) lengths.old }
 {
     numbers::socwr_cones(n, m, k, s, records, lengths)

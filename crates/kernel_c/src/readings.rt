@@ -1,6 +1,6 @@
 // Reading.
 ghost use Rattle.std.specs.Prelude.{◌≡◌, ◌+◌, length};
-ghost use Rattle.refusals.specs.Refusals.{written_if, left_in};
+ghost use Rattle.refusals.specs.Refusals.{answer_if, left_in};
 ghost use Rattle.records.specs.Network.{network_of};
 ghost use Rattle.reading.specs.Reading.{reading_check, prices_check, price_list, code_answer};
 ghost use Rattle.kernel.specs.Answers.{CheckedAnswer, WrittenAnswer};
@@ -33,7 +33,7 @@ pub extern "C" fn socwr_prices(
     z: &[f64],
     prices: &mut [f64],
 ) -> Answer
-    ensures written_answer { WrittenAnswer (written_if (prices_check n m k s records.now z.now (length prices.old)) (n + n)) result }
+    ensures written_answer { WrittenAnswer (answer_if (prices_check n m k s records.now z.now (length prices.old)) (n + n)) result }
     ensures prices_after { prices.new ≡ left_in (prices_check n m k s records.now z.now (length prices.old)) (price_list (network_of n m k s records.now) z.now) prices.old }
 {
     readings::socwr_prices(n, m, k, s, records, z, prices)

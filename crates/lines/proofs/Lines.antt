@@ -1,12 +1,6 @@
 -- The lines of each kind stand for the rows of the network. Assumes nothing.
-use Prim.Native.Nat.{ℕ, zero, suc, ◌+◌, ◌<◌, ◌≤◌}
-use mathlib.Core.Path.{◌≡◌, refl, ap, ◌∙◌}
-use mathlib.Core.Bool.{Bool, true, false, ◌&&◌, cond}
-use mathlib.Core.List.{List, [], ◌∷◌, ◌++◌, map}
-use native.Mathlib.Omega.{arith}
-use lib.Dec.{ltb}
-use lib.Ieee.{Float, neg, ne}
-use borrow.Author.Tests.{lt-ltb, le-ltb}
+use Rattle.std.proofs.Common.{ℕ, zero, suc, ◌+◌, ◌<◌, ◌≤◌, ◌≡◌, refl, ap, ◌∙◌, Bool, true, false, ◌&&◌, cond, List, [], ◌∷◌, ◌++◌, map, arith, ltb, Float, lt-ltb, le-ltb}
+use Rattle.std.specs.Float.Ieee.{neg, ne}
 use Rattle.lists.specs.UpTo.{when, sum, bit, count}
 use Rattle.lists.specs.Entries.{entry}
 use Rattle.lists.proofs.Sums.{sum_room}
@@ -50,7 +44,8 @@ module _ (l : SocWrLayout) (bytes : List ℕ) (h : Laid l bytes) where
         within = record { row = row_below G x dr; first = column-below G c dc; second = column-below G c dc };
       })
     where
-      go : (d : Bool) (r : ℕ) (f : Float → Float) → map (λ t. entry r (column_number G t.col) (f t.coef)) (when d (term c (constant64 k) ∷ [])) ≡ when d (entry r (column_number G c) (f (constant64 k)) ∷ [])
+      go : (d : Bool) (r : ℕ) (f : Float → Float) → map (λ t. entry r (column_number G t.col) (f t.coef)) (when d (term c (constant64 k) ∷ []))
+          ≡ when d (entry r (column_number G c) (f (constant64 k)) ∷ [])
       go true r f = refl
       go false r f = refl
 
@@ -108,7 +103,8 @@ module _ (l : SocWrLayout) (bytes : List ℕ) (h : Laid l bytes) where
   -- a row of such two terms, which it has where the test holds
   two-terms : (x : RowName) (c d : ColumnName) (u v : Float) (k : Constant) (on : Bool) (w : Float) {row col next : ℕ} → (on ≡ true → v ≡ u)
       → row ≡ row_number G x → col ≡ column_number G c → next ≡ column_number G d
-      → ((r : ℕ) (f : Float → Float) → map (λ t. entry r (column_number G t.col) (f t.coef)) (terms G x) ≡ map (λ t. entry r (column_number G t.col) (f t.coef)) (when on (kept c u ++ (term d (constant64 k) ∷ []))))
+      → ((r : ℕ) (f : Float → Float) → map (λ t. entry r (column_number G t.col) (f t.coef)) (terms G x)
+      ≡ map (λ t. entry r (column_number G t.col) (f t.coef)) (when on (kept c u ++ (term d (constant64 k) ∷ []))))
       → w ≡ b G x → HasRow G x → HasColumn G c → HasColumn G d
       → Stands G x (line row w (spot (on && ne v zero64) col v) (spot on next (constant64 k)))
   unfolding line_at
@@ -281,7 +277,8 @@ module _ (l : SocWrLayout) (bytes : List ℕ) (h : Laid l bytes) where
       (thermal (layout_row l (Thermal limits 3)) (layout_row l (Thermal limits 4)) (layout_row l (Thermal limits 5)) (b G (Thermal e 3)) (layout_column l (Pt e)) (layout_column l (Qt e)))
   unfolding terms b
   to-stands e limits d on hl =
-      thermal-cone (thermal_to e) (Pt e) (Qt e) _ (λ u. layout_row l (Thermal limits (3 + u))) _ _ (λ u. thermal-at e limits (3 + u) hl) (laid-column l bytes h (Pt e) refl) (laid-column l bytes h (Qt e) refl)
+      thermal-cone (thermal_to e) (Pt e) (Qt e) _ (λ u. layout_row l (Thermal limits (3 + u))) _ _ (λ u. thermal-at e limits (3 + u) hl)
+      (laid-column l bytes h (Pt e) refl) (laid-column l bytes h (Qt e) refl)
       (λ u k. (d, on, omega arith)) d d refl refl refl refl refl refl
 
 -- what a line's and a cone's tests pick
@@ -294,9 +291,3 @@ pub ends_down : (l : SocWrLayout) (f t r : ℕ) (v : Float) → t ≤ f
     → ends_line l f t r v ≡ line r zero64 (spot true (layout_column l (W t)) v) (spot true (layout_column l (W f)) (constant64 minus_half))
 unfolding ends_line
 ends_down l f t r v h = rw (le-ltb f t h)
-
-pub last_line : (c : Cone) (q : ℕ) → (q ≡ 0 → ⊥) → (q ≡ 1 → ⊥) → (q ≡ 2 → ⊥) → c.d ≡ cone_line c q
-last_line c zero x y z = absurd (x refl)
-last_line c (suc zero) x y z = absurd (y refl)
-last_line c (suc (suc zero)) x y z = absurd (z refl)
-last_line c (suc (suc (suc q))) x y z = refl

@@ -1,9 +1,7 @@
 -- The Ohm rows stand for the rows of the network. Assumes nothing.
-use Prim.Native.Nat.{ℕ, ◌+◌, ◌<◌}
-use mathlib.Core.Path.{◌≡◌, refl}
-use mathlib.Core.Bool.{Bool, true, false}
-use mathlib.Core.List.{List, [], ◌∷◌, ◌++◌, map-append, append_assoc}
-use lib.Ieee.{Float, ne}
+use Rattle.std.proofs.Common.{ℕ, ◌<◌, ◌≡◌, refl, Bool, true, false, List, [], ◌∷◌, ◌++◌, append_assoc, Float}
+use Rattle.std.specs.Float.Ieee.{ne}
+use mathlib.Core.List.{map-append}
 use Rattle.lists.specs.UpTo.{when}
 use Rattle.lists.specs.Entries.{entry}
 use Rattle.ring.specs.Ops.{rounded}
@@ -48,9 +46,12 @@ module _ (l : SocWrLayout) (bytes : List ℕ) (h : Laid l bytes) where
 
   -- each row by its own case: its terms compute to the four
   pub ohm-stands : (k : OhmRow) (e : ℕ) → e < l.m → OhmStands G (ohm_row k e)
-      (ohm_of l e (end_bus G k e) (row_number G (ohm_row k e)) (column_number G (flow_column k e)) (ohm_value (branch_at rounded G e) k w) (ohm_value (branch_at rounded G e) k wr) (ohm_value (branch_at rounded G e) k wi))
+      (ohm_of l e (end_bus G k e) (row_number G (ohm_row k e)) (column_number G (flow_column k e))
+      (ohm_value (branch_at rounded G e) k w) (ohm_value (branch_at rounded G e) k wr) (ohm_value (branch_at rounded G e) k wi))
   unfolding terms ohm_entries ohm_value
-  ohm-stands pf e d = let q = columns (G.from e) e in record { number = refl; entries = λ r. rw (q.0, q.1, q.2) (in_four G r (W (G.from e)) (Wr e) (Wi e) (Pf e) _ _ _); within = row_below G (OhmPf e) d }
-  ohm-stands qf e d = let q = columns (G.from e) e in record { number = refl; entries = λ r. rw (q.0, q.1, q.2) (in_four G r (W (G.from e)) (Wr e) (Wi e) (Qf e) _ _ _); within = row_below G (OhmQf e) d }
+  ohm-stands pf e d = let q = columns (G.from e) e in
+      record { number = refl; entries = λ r. rw (q.0, q.1, q.2) (in_four G r (W (G.from e)) (Wr e) (Wi e) (Pf e) _ _ _); within = row_below G (OhmPf e) d }
+  ohm-stands qf e d = let q = columns (G.from e) e in
+      record { number = refl; entries = λ r. rw (q.0, q.1, q.2) (in_four G r (W (G.from e)) (Wr e) (Wi e) (Qf e) _ _ _); within = row_below G (OhmQf e) d }
   ohm-stands pt e d = let q = columns (G.to e) e in record { number = refl; entries = λ r. rw (q.0, q.1, q.2) (in_four G r (W (G.to e)) (Wr e) (Wi e) (Pt e) _ _ _); within = row_below G (OhmPt e) d }
   ohm-stands qt e d = let q = columns (G.to e) e in record { number = refl; entries = λ r. rw (q.0, q.1, q.2) (in_four G r (W (G.to e)) (Wr e) (Wi e) (Qt e) _ _ _); within = row_below G (OhmQt e) d }

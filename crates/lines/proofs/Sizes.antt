@@ -1,8 +1,5 @@
 -- The sizes of a network as its layout gives them. Assumes nothing.
-use Prim.Native.Nat.{ℕ, ◌+◌, ◌<◌, ◌^◌}
-use mathlib.Core.Path.{◌≡◌, ◌∙◌}
-use mathlib.Core.List.{List}
-use native.Mathlib.Omega.{arith}
+use Rattle.std.proofs.Common.{ℕ, ◌+◌, ◌<◌, ◌^◌, ◌≡◌, ◌∙◌, List, arith}
 use Rattle.numbering.specs.Numbering.{nvar, ncon}
 use Rattle.numbering.specs.Layout.{nvar_of}
 use Rattle.numbering.specs.Laid.{net_of, Laid}

@@ -4,6 +4,7 @@
 pub mod inner;
 
 // A term: the column and the coefficient. The row has it where it is on.
+// Kept: no Option, since a term that is off keeps its column, and both terms are bounded and written alike.
 #[derive(Clone, Copy)]
 pub struct Spot {
     pub on: bool,

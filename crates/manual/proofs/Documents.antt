@@ -1,10 +1,10 @@
 -- All that is proved from the two documents, put together. Assumes nothing.
+use Rattle.refusals.specs.Refusals.{passed}
 use Prim.Native.Nat.{ℕ}
 use mathlib.Core.Path.{◌≡◌}
 use mathlib.Core.List.{List}
 use lib.IntN.{ℤ}
 use Rattle.lists.specs.UpTo.{sum}
-use Rattle.refusals.specs.declared.Checked.TheVariants.{Accepted}
 use Rattle.records.specs.AcNetwork.{AcNetwork}
 use Rattle.records.specs.Network.{network_of}
 use Rattle.records.specs.Check.{check_of}
@@ -40,7 +40,7 @@ pub rounded-quotients : Rounded
 rounded-quotients = quotients
 
 -- the accepted records' segments add up to S, and so do those of the numbers put for them
-segments-add : (n m k s : ℕ) (bytes : List ℕ) → check_of n m k s bytes ≡ Accepted → (G : AcNetwork ℤ) → PutFor (network_of n m k s bytes) G → sum G.k G.segments ≡ G.s
+segments-add : (n m k s : ℕ) (bytes : List ℕ) → check_of n m k s bytes ≡ passed → (G : AcNetwork ℤ) → PutFor (network_of n m k s bytes) G → sum G.k G.segments ≡ G.s
 segments-add n m k s bytes h G p = rw (p.k, p.segments, p.s) (accepted n m k s bytes h).counts-add
 
 pub cones_hold : ConesHold

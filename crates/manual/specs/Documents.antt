@@ -1,10 +1,10 @@
 -- All that is proved from the two documents. G is any network, x any values of its columns, so that a claim for every x says each place, sign
 -- and formula of a row. What the manual says is proved over any commutative ring; what Clarabel's cones say is proved on whole numbers.
+use Rattle.refusals.specs.Refusals.{passed}
 use Rattle.std.specs.Prelude.{ℕ, ◌<◌, ◌≡◌, ◌↔◌, true, List, [], ◌∷◌, map, Float, ℤ, pos, ◌+ℤ◌, ◌*ℤ◌, ◌≤ℤ◌}
 use Rattle.lists.specs.UpTo.{listed}
 use Rattle.ring.specs.Ops.{Ops, whole}
 use Rattle.ring.specs.Laws.{CommutativeRing, Cancels}
-use Rattle.refusals.specs.declared.Checked.TheVariants.{Accepted}
 use Rattle.records.specs.AcNetwork.{BranchData, AcNetwork}
 use Rattle.records.specs.Network.{network_of}
 use Rattle.records.specs.Check.{check_of}
@@ -139,6 +139,6 @@ slacks G x = listed (ncon G) (λ p. slack whole G x (row_at G p))
 -- meaning holds
 abbrev pub ConesHold : Type 0
 ConesHold =
-    (n m k s : ℕ) (bytes : List ℕ) → check_of n m k s bytes ≡ Accepted → (G : AcNetwork ℤ) → PutFor (network_of n m k s bytes) G
+    (n m k s : ℕ) (bytes : List ℕ) → check_of n m k s bytes ≡ passed → (G : AcNetwork ℤ) → PutFor (network_of n m k s bytes) G
     → (map rows_of (cones G) ≡ cone_lengths G)
     × (((e : ℕ) → e < G.m → Symmetric whole (G.branch e)) → (x : ColumnName → ℤ) → InProduct (cones G) (slacks G x) ↔ Meant G x)

@@ -1,17 +1,11 @@
 -- The name that is found for a point stands there: the layout gives the name's number, and the network has the name. Assumes nothing.
-use Prim.Native.Nat.{ℕ, ◌+◌, ◌*◌, ◌/◌, ◌%◌, ◌<◌}
-use mathlib.Core.Path.{◌≡◌, refl, sym, ap, ◌∙◌}
-use mathlib.Core.Bool.{Bool, true, false}
-use mathlib.Core.List.{List}
-use native.Mathlib.Omega.{arith}
-use borrow.Author.Tests.{ne_eqb}
-use lib.Ieee.{Float}
-use lib.ListN.{length, get_or}
+use Rattle.std.proofs.Common.{ℕ, ◌+◌, ◌*◌, ◌/◌, ◌%◌, ◌<◌, ◌≡◌, refl, sym, ap, ◌∙◌, Bool, true, false, List, arith, ne_eqb, Float, length, get_or}
 use Rattle.lists.specs.UpTo.{bit, count}
 use Rattle.lists.proofs.Sums.{bit_le}
 use Rattle.records.specs.AcNetwork.{AcNetwork}
 use Rattle.numbering.specs.Blocks.{key, before, number_of}
-use Rattle.numbering.specs.Numbering.{SameKey, column_key, column_counted, ColumnStands, nvar, column_many, cost_columns, row_key, row_counted, RowStands, ncon, cost_rows, jabr_rows, thermal_rows}
+use Rattle.numbering.specs.Numbering.{SameKey, column_key, column_counted, ColumnStands, nvar, column_many, cost_columns, row_key, row_counted, RowStands, ncon, cost_rows, jabr_rows}
+use Rattle.numbering.specs.Numbering.{thermal_rows}
 use Rattle.numbering.specs.Layout.{layout_columns, layout_rows, sizes_of, start_in, InBlock}
 use Rattle.numbering.specs.Laid.{net_of, Laid}
 use Rattle.numbering.specs.Tally.{points_of, tally_of, Located}

@@ -54,6 +54,8 @@ pub fn row_key(name: RowName) -> Key
     }
 }
 
+// Kept: a block is a number in what follows, since it is the index of a table of lengths.
+
 // A row of the zero cone.
 fn equality_row(block: usize, item: usize) -> RowName
     requires { block < (row_key (Wub 0)).block }

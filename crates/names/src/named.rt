@@ -2,35 +2,15 @@
 ghost use Rattle.std.specs.Prelude.{◌≡◌, ◌<◌};
 ghost use Rattle.numbering.specs.Numbering.{ColumnStands, nvar, RowStands, ncon};
 ghost use Rattle.numbering.specs.Laid.{net_of, Laid};
-ghost use Rattle.names.specs.Named.{column_answer, column_named, row_answer, row_named};
-ghost use Rattle.numbering.specs.declared.ColumnName.TheVariants.{Pg};
-ghost use Rattle.numbering.specs.declared.RowName.TheVariants.{Pbal};
+ghost use Rattle.names.specs.Named.{column_named, row_named};
 
-use crate::{ColumnAnswer, RowAnswer, keys};
+use crate::keys;
 use numbering::inner::blocks;
 use numbering::inner::tally::locate;
-use numbering::layout::check_layout;
 use numbering::{ColumnName, RowName, SocWrLayout, Tally};
-use refusals::{Checked, Refusal, is_refused};
+use refusals::{Refusal, refuse_unless};
 
-// A refused check as an answer.
-fn no_column(check: Checked) -> ColumnAnswer
-    ensures { result ≡ column_answer check (Pg 0) }
-{
-    match check {
-        Checked::Accepted => ColumnAnswer::Column(ColumnName::Pg(0)),
-        Checked::Refused(cause) => ColumnAnswer::Refused(cause),
-    }
-}
-
-fn no_row(check: Checked) -> RowAnswer
-    ensures { result ≡ row_answer check (Pbal 0) }
-{
-    match check {
-        Checked::Accepted => RowAnswer::Row(RowName::Pbal(0)),
-        Checked::Refused(cause) => RowAnswer::Refused(cause),
-    }
-}
+// Kept: columns and rows have a function each; a trait over both would have these functions again, with laws to prove.
 
 // The name of column p of accepted records.
 fn column_at(l: SocWrLayout, bytes: &[u8], p: usize) -> ColumnName
@@ -71,32 +51,32 @@ fn row_at(l: SocWrLayout, bytes: &[u8], p: usize) -> RowName
     RowName::Thermal(e.item, at % blocks::THERMAL_ROWS)
 }
 
-pub fn column_name(n: usize, m: usize, k: usize, s: usize, bytes: &[u8], p: usize) -> ColumnAnswer
+pub fn column_name(
+    n: usize,
+    m: usize,
+    k: usize,
+    s: usize,
+    bytes: &[u8],
+    p: usize,
+) -> Result<ColumnName, Refusal>
     ensures { result ≡ column_named n m k s bytes.now p }
 {
-    let checked = check_layout(n, m, k, s, bytes, 0);
-    let check = checked.check;
-    if is_refused(check) {
-        return no_column(check);
-    }
-    let l = checked.layout;
-    if l.column_count() as usize <= p {
-        return ColumnAnswer::Refused(Refusal::PastEnd(p as u64));
-    }
-    ColumnAnswer::Column(column_at(l, bytes, p))
+    let l = SocWrLayout::new(n, m, k, s, bytes)?;
+    refuse_unless(p < l.column_count() as usize, Refusal::PastEnd(p as u64))?;
+    Ok(column_at(l, bytes, p))
 }
 
-pub fn row_name(n: usize, m: usize, k: usize, s: usize, bytes: &[u8], p: usize) -> RowAnswer
+pub fn row_name(
+    n: usize,
+    m: usize,
+    k: usize,
+    s: usize,
+    bytes: &[u8],
+    p: usize,
+) -> Result<RowName, Refusal>
     ensures { result ≡ row_named n m k s bytes.now p }
 {
-    let checked = check_layout(n, m, k, s, bytes, 0);
-    let check = checked.check;
-    if is_refused(check) {
-        return no_row(check);
-    }
-    let l = checked.layout;
-    if l.row_count() as usize <= p {
-        return RowAnswer::Refused(Refusal::PastEnd(p as u64));
-    }
-    RowAnswer::Row(row_at(l, bytes, p))
+    let l = SocWrLayout::new(n, m, k, s, bytes)?;
+    refuse_unless(p < l.row_count() as usize, Refusal::PastEnd(p as u64))?;
+    Ok(row_at(l, bytes, p))
 }

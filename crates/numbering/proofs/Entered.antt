@@ -1,62 +1,13 @@
 -- Answers after a check, and what blocks' lengths give of blocks. Assumes nothing.
-use Prim.Native.Nat.{ℕ, zero, suc, ◌+◌, ◌*◌, ◌<◌, ◌≤◌}
-use mathlib.Core.Path.{◌≡◌, refl, sym, ap, ◌∙◌, subst}
-use mathlib.Core.Bool.{true, false}
-use mathlib.Core.List.{List, [], ◌∷◌}
-use native.Mathlib.Omega.{arith}
-use native.Mathlib.Numerals.{add-one}
-use native.Mathlib.Nat.{one-mul}
-use lib.Dec.{T}
-use borrow.Author.Tests.{lt-ltb, le-ltb}
-use lib.ListN.{length, get_or}
+use Rattle.std.proofs.Common.{ℕ, zero, suc, ◌+◌, ◌*◌, ◌<◌, ◌≤◌, ◌≡◌, refl, sym, ap, ◌∙◌, List, [], ◌∷◌, length, get_or, arith, add-one, one-mul}
 use Rattle.lists.specs.UpTo.{up_to}
 use Rattle.lists.proofs.Sums.{sum-next, sum-later, sum-some}
-use Rattle.refusals.specs.Refusals.{is_refused}
-use Rattle.refusals.specs.declared.Checked.{Checked}
-use Rattle.refusals.specs.declared.Checked.TheVariants.{Accepted, Refused}
-use Rattle.refusals.specs.declared.Refusal.TheVariants.{PastEnd}
-use Rattle.refusals.proofs.Laws.{passed}
 use Rattle.numbering.specs.Blocks.{Block, alike, size, records, start, block_at, before, number_of, key}
 use Rattle.numbering.specs.Numbering.{column_table, row_table, column_many, row_many, jabr_rows, thermal_rows}
-use Rattle.numbering.specs.Layout.{layout_cause, layout_columns, layout_rows, layout_row, sizes_of, start_in, InRange}
-use Rattle.numbering.specs.Lookups.{after_check, in_layout, row_in, layout_answer}
-use Rattle.numbering.specs.declared.Lookup.{Lookup}
-use Rattle.numbering.specs.declared.Lookup.TheVariants.{Absent}
-use Rattle.numbering.specs.declared.Lookup.TheVariants as Lookup
+use Rattle.numbering.specs.Layout.{layout_columns, layout_rows, layout_row, sizes_of, start_in, InRange}
 use Rattle.numbering.specs.declared.SocWrLayout.{SocWrLayout}
 use Rattle.numbering.specs.declared.RowName.TheVariants.{Jabr, Thermal}
-use Rattle.numbering.specs.declared.LayoutAnswer.{LayoutAnswer}
-use Rattle.numbering.specs.declared.LayoutAnswer.TheVariants as LayoutAnswer
 use Rattle.numbering.proofs.Points.{before-zero, before-next}
-
--- ---- a check c that is d: refused, whatever else would be answered; or passed
-refused-alike : (c : Checked) (a b : Lookup) → is_refused c ≡ true → after_check c a ≡ after_check c b
-unfolding after_check is_refused
-refused-alike Accepted a b h = absurd (subst T (sym h) tt)
-refused-alike (Refused cause) a b h = refl
-
-pub stopped-at : {r : Lookup} {c d : Checked} (a : Lookup) → r ≡ after_check c Absent → c ≡ d → is_refused c ≡ true → r ≡ after_check d a
-stopped-at {r} {c} {d} a e p h = e ∙ refused-alike c Absent a h ∙ rw p
-
-pub gone-on : {c d : Checked} → c ≡ d → is_refused c ≡ false → d ≡ Accepted
-gone-on {c} e h = sym e ∙ passed c h
-
-pub answered : {d : Checked} (a : Lookup) → d ≡ Accepted → a ≡ after_check d a
-unfolding after_check
-answered a e = rw e
-
--- the same of a layout
-layout-alike : (c : Checked) (x y : SocWrLayout) → is_refused c ≡ true → layout_answer c x ≡ layout_answer c y
-unfolding layout_answer is_refused
-layout-alike Accepted x y h = absurd (subst T (sym h) tt)
-layout-alike (Refused cause) x y h = refl
-
-pub layout-stopped : {r : LayoutAnswer} {c d : Checked} (x y : SocWrLayout) → r ≡ layout_answer c x → c ≡ d → is_refused c ≡ true → r ≡ layout_answer d y
-layout-stopped {r} {c} {d} x y p q h = p ∙ layout-alike c x y h ∙ ap (λ (a : Checked). layout_answer a y) q
-
-pub layout-given : {d : Checked} (x y : SocWrLayout) → d ≡ Accepted → x ≡ y → LayoutAnswer.Layout x ≡ layout_answer d y
-unfolding layout_answer
-layout-given x y e q = rw (e, q)
 
 -- ---- where a block starts, from the blocks' lengths
 pub start-more : (ws : List ℕ) (b : ℕ) → start_in ws (b + 1) ≡ start_in ws b + get_or ws b 0
@@ -107,25 +58,9 @@ pub plain-number : (bs : List Block) (c : ℕ) → Plain bs c → (b i : ℕ) �
 unfolding number_of start
 plain-number bs c h b i l = rw (plain_at bs c h b l) (omega arith)
 
--- ---- a lookup in such a block, where the layout is in range
-module _ (l : SocWrLayout) (ok : layout_cause l ≡ Accepted) (bs : List Block) (c : ℕ) (h : Plain bs c) (b i : ℕ) (k : b < c) where
-  pub plain-past : get_or (sizes_of bs) b 0 ≤ i → Lookup.Refused (PastEnd i) ≡ in_layout l bs (key b i 0)
-  unfolding in_layout after_check
-  plain-past p = rw (ok, plain_at bs c h b k, le-ltb i (get_or (sizes_of bs) b 0) p)
-
-  pub plain-found : i < get_or (sizes_of bs) b 0 → {x : ℕ} → x ≡ number_of bs (key b i 0) → Lookup.Number x ≡ in_layout l bs (key b i 0)
-  unfolding in_layout after_check
-  plain-found p e = rw (ok, plain_at bs c h b k, lt-ltb i (get_or (sizes_of bs) b 0) p, e)
-
--- ---- a lookup of a branch's four rows
-module _ (l : SocWrLayout) (ok : layout_cause l ≡ Accepted) {e : ℕ} where
-  pub jabr-past : l.m ≤ e → Lookup.Refused (PastEnd e) ≡ row_in l (Jabr e 0)
-  unfolding in_layout after_check layout_rows row_table
-  jabr-past p = rw (ok, le-ltb e l.m p)
-
-  pub jabr-found : e < l.m → {x : ℕ} → x ≡ layout_row l (Jabr e 0) → Lookup.Number x ≡ row_in l (Jabr e 0)
-  unfolding in_layout after_check layout_rows row_table
-  jabr-found p q = rw (ok, lt-ltb e l.m p, q)
+-- so its records are as many as its length says
+pub plain-records : (bs : List Block) (c : ℕ) → Plain bs c → (b : ℕ) → b < c → get_or (sizes_of bs) b 0 ≡ records (block_at bs b)
+plain-records bs c h b l = sym (ap records (plain_at bs c h b l))
 
 -- ---- the layout's blocks
 module _ (l : SocWrLayout) where

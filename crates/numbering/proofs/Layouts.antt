@@ -8,8 +8,7 @@ use borrow.Author.Tests.{leb-true, le-leb}
 use lib.Ieee.{Float}
 use Rattle.lists.specs.UpTo.{sum, bit, count}
 use Rattle.lists.proofs.Sums.{count-le, sum-next, sum_mono}
-use Rattle.refusals.specs.Refusals.{refuse_unless, ◌or_else◌}
-use Rattle.refusals.specs.declared.Checked.TheVariants.{Accepted}
+use Rattle.refusals.specs.Refusals.{refuse_unless, ◌or_else◌, passed}
 use Rattle.refusals.proofs.Laws.{or_else_accepted, test-held}
 use Rattle.records.specs.AcNetwork.{AcNetwork}
 use Rattle.records.specs.Check.{count_cause}
@@ -23,7 +22,7 @@ use Rattle.numbering.specs.Tally.{points_of, tally_of}
 use Rattle.numbering.specs.declared.SocWrLayout.{SocWrLayout}
 use Rattle.numbering.specs.declared.Tally.TheVariants.{Limited, Piecewise, Segments}
 
-pub in_range : (l : SocWrLayout) → layout_cause l ≡ Accepted → InRange l
+pub in_range : (l : SocWrLayout) → layout_cause l ≡ passed → InRange l
 unfolding layout_cause
 in_range l h =
     let a = or_else_accepted _ _ h in
@@ -39,7 +38,7 @@ in_range l h =
     }
 
 -- and such a layout has no cause
-pub range-accepted : (l : SocWrLayout) → InRange l → layout_cause l ≡ Accepted
+pub range-accepted : (l : SocWrLayout) → InRange l → layout_cause l ≡ passed
 unfolding layout_cause count_cause ◌or_else◌ refuse_unless
 range-accepted l h =
     rw (le-leb _ _ h.n-range, le-leb _ _ h.m-range, le-leb _ _ h.k-range, le-leb _ _ h.s-range, le-leb _ _ h.t-range, le-leb _ _ h.c-range)

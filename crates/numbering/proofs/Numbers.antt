@@ -2,7 +2,7 @@
 -- A number is the sum of the blocks before its own, so each is a sum of counts: the formulas of the Rust's `SocWrLayout`. Assumes nothing.
 use Prim.Native.Nat.{ℕ, ◌+◌, ◌*◌, ◌≤◌, ◌<◌}
 use mathlib.Core.Path.{◌≡◌, refl, ap}
-use mathlib.Core.Bool.{true, false, false≢true}
+use mathlib.Core.Bool.{true, false≢true}
 use native.Mathlib.Omega.{arith}
 use Rattle.lists.specs.UpTo.{sum, bit, count}
 use Rattle.records.specs.AcNetwork.{AcNetwork}

@@ -1,17 +1,16 @@
 -- The layout and the count that the record check's pass gives, where it accepts. Assumes nothing.
-use Prim.Native.Nat.{ℕ, ◌≤◌, ◌<◌}
-use mathlib.Core.Path.{◌≡◌, sym, ap, ◌∙◌}
-use mathlib.Core.List.{List}
+use Rattle.std.proofs.Common.{ℕ, ◌≤◌, ◌<◌, ◌≡◌, sym, ap, ◌∙◌, List, arith, Result, Ok}
 use native.Mathlib.Nat.{min-eq_left}
-use native.Mathlib.Omega.{arith}
-use Rattle.refusals.specs.declared.Checked.TheVariants.{Accepted}
+use Rattle.refusals.specs.Refusals.{passed, answer_if}
+use Rattle.refusals.specs.declared.Refusal.{Refusal}
+use Rattle.refusals.proofs.Laws.{held_by}
 use Rattle.records.specs.Check.{check_of}
 use Rattle.records.specs.Network.{network_of}
 use Rattle.records.proofs.Laws.{accepted}
 use Rattle.numbering.specs.Numbering.{nvar, ncon}
 use Rattle.numbering.specs.Laid.{net_of, Laid}
 use Rattle.numbering.specs.Layout.{layout_of, nvar_of, ncon_of}
-use Rattle.numbering.specs.Lookups.{LaidOut}
+use Rattle.numbering.specs.Lookups.{new_layout, checked_layout}
 use Rattle.numbering.specs.Tally.{tally_of}
 use Rattle.numbering.specs.declared.CheckedLayout.{CheckedLayout}
 use Rattle.numbering.specs.declared.SocWrLayout.{SocWrLayout}
@@ -19,21 +18,36 @@ use Rattle.numbering.specs.declared.Tally.TheVariants.{Limited}
 use Rattle.numbering.proofs.Laid.{laid, laid-nvar, laid-ncon}
 use Rattle.numbering.proofs.Layouts.{limited-before}
 
-module _ {n m k s : ℕ} {b : List ℕ} {e : ℕ} {r : CheckedLayout} (p : LaidOut n m k s b e r) (h : check_of n m k s b ≡ Accepted) where
-  pub pass-layout : r.layout ≡ layout_of (network_of n m k s b)
-  pass-layout = rw h at p.layout
+-- the layout alone
+module _ (n m k s : ℕ) (b : List ℕ) {r : Result SocWrLayout Refusal} {l : SocWrLayout} (p : r ≡ new_layout n m k s b) (h : r ≡ Ok l) where
+  pub new-check : check_of n m k s b ≡ passed
+  new-check = (held_by _ _ p h).0
 
-  pub pass-laid : Laid r.layout b
-  pass-laid = laid n m k s b (accepted n m k s b h) pass-layout
+  pub new-layout : l ≡ layout_of (network_of n m k s b)
+  new-layout = sym (held_by _ _ p h).1
+
+  pub new-laid : Laid l b
+  new-laid = laid n m k s b (accepted n m k s b new-check) new-layout
 
   -- so its columns and rows are the network's
-  pub pass-nvar : nvar_of r.layout ≡ nvar (network_of n m k s b)
-  pass-nvar = laid-nvar r.layout b pass-laid ∙ ap (λ (l : SocWrLayout). nvar (net_of l b)) pass-layout
+  pub new-nvar : nvar_of l ≡ nvar (network_of n m k s b)
+  new-nvar = laid-nvar l b new-laid ∙ ap (λ (x : SocWrLayout). nvar (net_of x b)) new-layout
 
-  pub pass-ncon : ncon_of r.layout ≡ ncon (network_of n m k s b)
-  pass-ncon = laid-ncon r.layout b pass-laid ∙ ap (λ (l : SocWrLayout). ncon (net_of l b)) pass-layout
+  pub new-ncon : ncon_of l ≡ ncon (network_of n m k s b)
+  new-ncon = laid-ncon l b new-laid ∙ ap (λ (x : SocWrLayout). ncon (net_of x b)) new-layout
 
-  pub pass-before : e < m → r.before ≡ tally_of Limited b n e
+-- the layout with the limited branches before branch e
+module _ (n m k s : ℕ) (b : List ℕ) (e : ℕ) {r : Result CheckedLayout Refusal} {x : CheckedLayout} (p : r ≡ answer_if (check_of n m k s b) (checked_layout n m k s b e)) (h : r ≡ Ok x) where
+  pub pass-check : check_of n m k s b ≡ passed
+  pass-check = (held_by _ _ p h).0
+
+  pub pass-layout : x.layout ≡ layout_of (network_of n m k s b)
+  pass-layout = sym (ap (λ (y : CheckedLayout). y.layout) (held_by _ _ p h).1)
+
+  pub pass-laid : Laid x.layout b
+  pass-laid = laid n m k s b (accepted n m k s b pass-check) pass-layout
+
+  pub pass-before : e < m → x.before ≡ tally_of Limited b n e
   pass-before l =
       let q : e ≤ m = omega arith in
-      (rw (h, min-eq_left q) at p.before) ∙ sym (limited-before n m k s b e)
+      sym (rw (min-eq_left q) at (ap (λ (y : CheckedLayout). y.before) (held_by _ _ p h).1)) ∙ sym (limited-before n m k s b e)

@@ -1,8 +1,7 @@
 -- The layout: counts alone, and what they give of the numbering.
 use Rattle.std.specs.Prelude.{ℕ, ◌+◌, ◌*◌, ◌≤◌, ◌<◌, ◌≡◌, List, map, leb, get_or}
 use Rattle.lists.specs.UpTo.{sum}
-use Rattle.refusals.specs.Refusals.{◌or_else◌, refuse_unless}
-use Rattle.refusals.specs.declared.Checked.{Checked}
+use Rattle.refusals.specs.Refusals.{◌or_else◌, refuse_unless, Checked}
 use Rattle.refusals.specs.declared.Refusal.TheVariants.{CountTooLarge}
 use Rattle.records.specs.Check.{count_cause}
 use Rattle.records.specs.AcNetwork.{AcNetwork}
@@ -16,10 +15,6 @@ use Rattle.numbering.specs.declared.RowName.{RowName}
 -- the layout of a network: its counts, T and the cost columns
 abbrev pub layout_of : {A : Type 0} → AcNetwork A → SocWrLayout
 layout_of G = record { n = G.n; m = G.m; k = G.k; s = G.s; t = limits G; cost_columns = curves G }
-
--- counts alone, with no limited branch and no cost column
-abbrev pub counted_of : ℕ → ℕ → ℕ → ℕ → SocWrLayout
-counted_of n m k s = record { n = n; m = m; k = k; s = s; t = 0; cost_columns = 0 }
 
 -- 1: the record check's causes, then "in a layout handed in, T above m or cost columns above k"
 unfoldable pub layout_cause : SocWrLayout → Checked

@@ -3,6 +3,7 @@
 use crate::SocWrLayout;
 
 pub mod blocks;
+pub mod network;
 pub mod tally;
 
 ghost use Rattle.std.specs.Prelude.{◌≡◌, ◌+◌, ◌*◌, ◌≤◌, ◌<◌};

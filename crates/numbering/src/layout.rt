@@ -1,332 +1,264 @@
 // The layout's methods: each tests the layout handed in, and then the index.
 ghost use Rattle.std.specs.Prelude.{◌≡◌, ◌<◌};
+ghost use Rattle.refusals.specs.Refusals.{answer_if};
+ghost use Rattle.records.specs.Check.{check_of};
 ghost use Rattle.numbering.specs.Blocks.{key};
 ghost use Rattle.numbering.specs.Numbering.{cost_columns, cost_rows};
-ghost use Rattle.numbering.specs.Layout.{counted_of, layout_cause, layout_columns, layout_rows, layout_row, n_eq_of, n_ineq_of, nvar_of, ncon_of};
-ghost use Rattle.numbering.specs.Lookups.{after_check, in_layout, column_in, row_in, size_in, layout_answer, new_layout, LaidOut};
-ghost use Rattle.numbering.specs.declared.Lookup.TheVariants.{Absent};
+ghost use Rattle.numbering.specs.Layout.{layout_cause, layout_columns, layout_rows, layout_row, n_eq_of, n_ineq_of, nvar_of, ncon_of};
+ghost use Rattle.numbering.specs.Lookups.{in_layout, column_in, row_in, size_in, new_layout, checked_layout};
 ghost use Rattle.numbering.specs.declared.ColumnName.TheVariants.{Pg, Qg, W, Wr, Wi, Pf, Pt, Qf, Qt};
 ghost use Rattle.numbering.specs.declared.RowName.TheVariants.{Pbal, Qbal, OhmPf, OhmQf, OhmPt, OhmQt, Wub, Wlb, Pgub, Pglb, Qgub, Qglb, Angub, Anglb, Jabr};
 
 use crate::inner::blocks;
-use crate::{CheckedLayout, LayoutAnswer, Lookup, SocWrLayout};
-use refusals::{Checked, Refusal, is_refused, or_else, refuse_unless};
-
-// A refused check as an answer.
-pub fn refused(check: Checked) -> Lookup
-    ensures { result ≡ after_check check Absent }
-{
-    match check {
-        Checked::Accepted => Lookup::Absent,
-        Checked::Refused(cause) => Lookup::Refused(cause),
-    }
-}
-
-// The layout of nothing.
-fn empty() -> SocWrLayout
-    ensures { result ≡ counted_of 0 0 0 0 }
-{
-    SocWrLayout {
-        n: 0,
-        m: 0,
-        k: 0,
-        s: 0,
-        t: 0,
-        cost_columns: 0,
-    }
-}
-
-fn no_layout(check: Checked) -> LayoutAnswer
-    ensures { result ≡ layout_answer check (counted_of 0 0 0 0) }
-{
-    match check {
-        Checked::Accepted => LayoutAnswer::Layout(empty()),
-        Checked::Refused(cause) => LayoutAnswer::Refused(cause),
-    }
-}
+use crate::{CheckedLayout, SocWrLayout};
+use refusals::{Refusal, refuse_unless};
 
 // The record check and the layout by one pass over the records, with the limited branches before branch e.
-pub fn check_layout(n: usize, m: usize, k: usize, s: usize, bytes: &[u8], e: usize) -> CheckedLayout
-    ensures { LaidOut n m k s bytes.now e result }
+pub fn check_layout(
+    n: usize,
+    m: usize,
+    k: usize,
+    s: usize,
+    bytes: &[u8],
+    e: usize,
+) -> Result<CheckedLayout, Refusal>
+    ensures { result ≡ answer_if (check_of n m k s bytes.now) (checked_layout n m k s bytes.now e) }
 {
-    let counted = record_check::check_counting(n, m, k, s, bytes, e);
-    let check = counted.check;
-    let layout = SocWrLayout {
-        n,
-        m,
-        k,
-        s,
-        t: counted.t,
-        cost_columns: counted.cost_columns,
-    };
-    CheckedLayout {
-        check,
-        layout,
+    let counted = record_check::check_counting(n, m, k, s, bytes, e)?;
+    Ok(CheckedLayout {
+        layout: SocWrLayout {
+            n,
+            m,
+            k,
+            s,
+            t: counted.t,
+            cost_columns: counted.cost_columns,
+        },
         before: counted.before,
-    }
+    })
 }
 
 impl SocWrLayout {
     // The layout of a network, made from its counts and records.
-    pub fn new(n: usize, m: usize, k: usize, s: usize, bytes: &[u8]) -> LayoutAnswer
+    pub fn new(n: usize, m: usize, k: usize, s: usize, bytes: &[u8]) -> Result<SocWrLayout, Refusal>
         ensures { result ≡ new_layout n m k s bytes.now }
     {
-        let checked = check_layout(n, m, k, s, bytes, 0);
-        let check = checked.check;
-        if is_refused(check) {
-            return no_layout(check);
-        }
-        let layout = checked.layout;
-        LayoutAnswer::Layout(layout)
+        Ok(check_layout(n, m, k, s, bytes, 0)?.layout)
     }
 
     // 1: the first of n, m, k, S, T, cost columns that is too large.
-    pub fn cause(self) -> Checked
+    pub fn cause(self) -> Result<(), Refusal>
         ensures { result ≡ layout_cause self }
     {
-        or_else(
-            record_check::count_cause(self.n, self.m, self.k, self.s),
-            or_else(
-                refuse_unless(self.t <= self.m, Refusal::CountTooLarge(4)),
-                refuse_unless(self.cost_columns <= self.k, Refusal::CountTooLarge(5)),
-            ),
-        )
+        record_check::count_cause(self.n, self.m, self.k, self.s)?;
+        refuse_unless(self.t <= self.m, Refusal::CountTooLarge(4))?;
+        refuse_unless(self.cost_columns <= self.k, Refusal::CountTooLarge(5))
     }
 
     // A column of a block whose records have one column each.
-    fn plain_column(self, block: usize, i: usize) -> Lookup
+    fn plain_column(self, block: usize, i: usize) -> Result<u32, Refusal>
         requires { block < cost_columns }
         ensures { result ≡ in_layout self (layout_columns self) (key block i 0) }
     {
-        let cause = self.cause();
-        if is_refused(cause) {
-            return refused(cause);
-        }
+        self.cause()?;
         let sizes = blocks::column_sizes(self);
-        if sizes[block] <= i {
-            return Lookup::Refused(Refusal::PastEnd(i as u64));
-        }
-        Lookup::Number(self.column_at(block, i))
+        refuse_unless(i < sizes[block], Refusal::PastEnd(i as u64))?;
+        Ok(self.column_at(block, i))
     }
 
     // A row of a block whose records have one row each.
-    fn plain_row(self, block: usize, i: usize) -> Lookup
+    fn plain_row(self, block: usize, i: usize) -> Result<u32, Refusal>
         requires { block < cost_rows }
         ensures { result ≡ in_layout self (layout_rows self) (key block i 0) }
     {
-        let cause = self.cause();
-        if is_refused(cause) {
-            return refused(cause);
-        }
+        self.cause()?;
         let sizes = blocks::row_sizes(self);
-        if sizes[block] <= i {
-            return Lookup::Refused(Refusal::PastEnd(i as u64));
-        }
-        Lookup::Number(self.row_at(block, i))
+        refuse_unless(i < sizes[block], Refusal::PastEnd(i as u64))?;
+        Ok(self.row_at(block, i))
     }
 
-    pub fn col_pg(self, g: usize) -> Lookup
+    pub fn col_pg(self, g: usize) -> Result<u32, Refusal>
         ensures { result ≡ column_in self (Pg g) }
     {
         self.plain_column(blocks::PG, g)
     }
 
-    pub fn col_qg(self, g: usize) -> Lookup
+    pub fn col_qg(self, g: usize) -> Result<u32, Refusal>
         ensures { result ≡ column_in self (Qg g) }
     {
         self.plain_column(blocks::QG, g)
     }
 
-    pub fn col_w(self, i: usize) -> Lookup
+    pub fn col_w(self, i: usize) -> Result<u32, Refusal>
         ensures { result ≡ column_in self (W i) }
     {
         self.plain_column(blocks::W, i)
     }
 
-    pub fn col_wr(self, e: usize) -> Lookup
+    pub fn col_wr(self, e: usize) -> Result<u32, Refusal>
         ensures { result ≡ column_in self (Wr e) }
     {
         self.plain_column(blocks::WR, e)
     }
 
-    pub fn col_wi(self, e: usize) -> Lookup
+    pub fn col_wi(self, e: usize) -> Result<u32, Refusal>
         ensures { result ≡ column_in self (Wi e) }
     {
         self.plain_column(blocks::WI, e)
     }
 
-    pub fn col_pf(self, e: usize) -> Lookup
+    pub fn col_pf(self, e: usize) -> Result<u32, Refusal>
         ensures { result ≡ column_in self (Pf e) }
     {
         self.plain_column(blocks::PF, e)
     }
 
-    pub fn col_pt(self, e: usize) -> Lookup
+    pub fn col_pt(self, e: usize) -> Result<u32, Refusal>
         ensures { result ≡ column_in self (Pt e) }
     {
         self.plain_column(blocks::PT, e)
     }
 
-    pub fn col_qf(self, e: usize) -> Lookup
+    pub fn col_qf(self, e: usize) -> Result<u32, Refusal>
         ensures { result ≡ column_in self (Qf e) }
     {
         self.plain_column(blocks::QF, e)
     }
 
-    pub fn col_qt(self, e: usize) -> Lookup
+    pub fn col_qt(self, e: usize) -> Result<u32, Refusal>
         ensures { result ≡ column_in self (Qt e) }
     {
         self.plain_column(blocks::QT, e)
     }
 
-    pub fn r_pbal(self, i: usize) -> Lookup
+    pub fn r_pbal(self, i: usize) -> Result<u32, Refusal>
         ensures { result ≡ row_in self (Pbal i) }
     {
         self.plain_row(blocks::PBAL, i)
     }
 
-    pub fn r_qbal(self, i: usize) -> Lookup
+    pub fn r_qbal(self, i: usize) -> Result<u32, Refusal>
         ensures { result ≡ row_in self (Qbal i) }
     {
         self.plain_row(blocks::QBAL, i)
     }
 
-    pub fn r_ohm_pf(self, e: usize) -> Lookup
+    pub fn r_ohm_pf(self, e: usize) -> Result<u32, Refusal>
         ensures { result ≡ row_in self (OhmPf e) }
     {
         self.plain_row(blocks::OHM_PF, e)
     }
 
-    pub fn r_ohm_qf(self, e: usize) -> Lookup
+    pub fn r_ohm_qf(self, e: usize) -> Result<u32, Refusal>
         ensures { result ≡ row_in self (OhmQf e) }
     {
         self.plain_row(blocks::OHM_QF, e)
     }
 
-    pub fn r_ohm_pt(self, e: usize) -> Lookup
+    pub fn r_ohm_pt(self, e: usize) -> Result<u32, Refusal>
         ensures { result ≡ row_in self (OhmPt e) }
     {
         self.plain_row(blocks::OHM_PT, e)
     }
 
-    pub fn r_ohm_qt(self, e: usize) -> Lookup
+    pub fn r_ohm_qt(self, e: usize) -> Result<u32, Refusal>
         ensures { result ≡ row_in self (OhmQt e) }
     {
         self.plain_row(blocks::OHM_QT, e)
     }
 
-    pub fn r_wub(self, i: usize) -> Lookup
+    pub fn r_wub(self, i: usize) -> Result<u32, Refusal>
         ensures { result ≡ row_in self (Wub i) }
     {
         self.plain_row(blocks::WUB, i)
     }
 
-    pub fn r_wlb(self, i: usize) -> Lookup
+    pub fn r_wlb(self, i: usize) -> Result<u32, Refusal>
         ensures { result ≡ row_in self (Wlb i) }
     {
         self.plain_row(blocks::WLB, i)
     }
 
-    pub fn r_pgub(self, g: usize) -> Lookup
+    pub fn r_pgub(self, g: usize) -> Result<u32, Refusal>
         ensures { result ≡ row_in self (Pgub g) }
     {
         self.plain_row(blocks::PGUB, g)
     }
 
-    pub fn r_pglb(self, g: usize) -> Lookup
+    pub fn r_pglb(self, g: usize) -> Result<u32, Refusal>
         ensures { result ≡ row_in self (Pglb g) }
     {
         self.plain_row(blocks::PGLB, g)
     }
 
-    pub fn r_qgub(self, g: usize) -> Lookup
+    pub fn r_qgub(self, g: usize) -> Result<u32, Refusal>
         ensures { result ≡ row_in self (Qgub g) }
     {
         self.plain_row(blocks::QGUB, g)
     }
 
-    pub fn r_qglb(self, g: usize) -> Lookup
+    pub fn r_qglb(self, g: usize) -> Result<u32, Refusal>
         ensures { result ≡ row_in self (Qglb g) }
     {
         self.plain_row(blocks::QGLB, g)
     }
 
-    pub fn r_angub(self, e: usize) -> Lookup
+    pub fn r_angub(self, e: usize) -> Result<u32, Refusal>
         ensures { result ≡ row_in self (Angub e) }
     {
         self.plain_row(blocks::ANGUB, e)
     }
 
-    pub fn r_anglb(self, e: usize) -> Lookup
+    pub fn r_anglb(self, e: usize) -> Result<u32, Refusal>
         ensures { result ≡ row_in self (Anglb e) }
     {
         self.plain_row(blocks::ANGLB, e)
     }
 
     // The first of a branch's four rows.
-    pub fn r_jabr(self, e: usize) -> Lookup
+    pub fn r_jabr(self, e: usize) -> Result<u32, Refusal>
         ensures { result ≡ row_in self (Jabr e 0) }
     {
-        let cause = self.cause();
-        if is_refused(cause) {
-            return refused(cause);
-        }
-        if self.m <= e {
-            return Lookup::Refused(Refusal::PastEnd(e as u64));
-        }
-        Lookup::Number(self.jabr_row(e, 0))
+        self.cause()?;
+        refuse_unless(e < self.m, Refusal::PastEnd(e as u64))?;
+        Ok(self.jabr_row(e, 0))
     }
 
     // The rows of the zero cone, and of the nonnegative cone.
-    pub fn n_eq(self) -> Lookup
+    pub fn n_eq(self) -> Result<u32, Refusal>
         ensures { result ≡ size_in self (n_eq_of self) }
     {
-        let cause = self.cause();
-        if is_refused(cause) {
-            return refused(cause);
-        }
-        Lookup::Number(self.zero_rows())
+        self.cause()?;
+        Ok(self.zero_rows())
     }
 
-    pub fn n_ineq(self) -> Lookup
+    pub fn n_ineq(self) -> Result<u32, Refusal>
         ensures { result ≡ size_in self (n_ineq_of self) }
     {
-        let cause = self.cause();
-        if is_refused(cause) {
-            return refused(cause);
-        }
-        Lookup::Number(self.nonnegative_rows())
+        self.cause()?;
+        Ok(self.nonnegative_rows())
     }
 
     // The columns, and the rows.
-    pub fn nvar(self) -> Lookup
+    pub fn nvar(self) -> Result<u32, Refusal>
         ensures { result ≡ size_in self (nvar_of self) }
     {
-        let cause = self.cause();
-        if is_refused(cause) {
-            return refused(cause);
-        }
-        Lookup::Number(self.column_count())
+        self.cause()?;
+        Ok(self.column_count())
     }
 
-    pub fn ncon(self) -> Lookup
+    pub fn ncon(self) -> Result<u32, Refusal>
         ensures { result ≡ size_in self (ncon_of self) }
     {
-        let cause = self.cause();
-        if is_refused(cause) {
-            return refused(cause);
-        }
-        Lookup::Number(self.row_count())
+        self.cause()?;
+        Ok(self.row_count())
     }
 
     // The first row of the second-order cones.
-    pub fn soc_base(self) -> Lookup
+    pub fn soc_base(self) -> Result<u32, Refusal>
         ensures { result ≡ size_in self (layout_row self (Jabr 0 0)) }
     {
-        let cause = self.cause();
-        if is_refused(cause) {
-            return refused(cause);
-        }
-        Lookup::Number(self.jabr_row(0, 0))
+        self.cause()?;
+        Ok(self.jabr_row(0, 0))
     }
 }

@@ -1,11 +1,12 @@
 // Numbering of the rows and columns of the SOCWR program.
 #![tactic(auto)]
 
-use refusals::{Checked, Refusal};
-
 pub mod cones;
 pub mod inner;
 pub mod layout;
+pub mod network;
+
+pub use network::Network;
 
 // A point of a row of things that have several points each: the thing, and the place in it.
 #[derive(Clone, Copy)]
@@ -78,24 +79,9 @@ pub struct SocWrLayout {
     pub cost_columns: usize,
 }
 
-// The answer to a lookup: a row's or column's number; that the record has none (the Rust's None); or why it is refused.
-#[derive(Clone, Copy)]
-pub enum Lookup {
-    Number(u32),
-    Absent,
-    Refused(Refusal),
-}
-
-#[derive(Clone, Copy)]
-pub enum LayoutAnswer {
-    Layout(SocWrLayout),
-    Refused(Refusal),
-}
-
-// The answer of the record check, the layout, and how many limited branches come before a given one; nothing is counted where it refuses.
+// The layout of checked records, and how many limited branches come before a given one.
 #[derive(Clone, Copy)]
 pub struct CheckedLayout {
-    pub check: Checked,
     pub layout: SocWrLayout,
     pub before: usize,
 }

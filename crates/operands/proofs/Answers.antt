@@ -1,14 +1,8 @@
 -- What an accepted operand has, and the selectors' lists. Assumes nothing.
-use Prim.Native.Nat.{ℕ, ◌+◌}
-use mathlib.Core.Path.{◌≡◌, sym, ap, subst}
-use mathlib.Core.Bool.{true}
-use mathlib.Core.List.{[], ◌∷◌, ◌++◌}
-use native.Mathlib.Omega.{arith}
-use lib.Dec.{T}
-use lib.Ieee.{Float}
+use Rattle.refusals.specs.Refusals.{passed}
+use Rattle.std.proofs.Common.{ℕ, ◌+◌, ◌≡◌, sym, ap, subst, true, T, [], ◌∷◌, ◌++◌, arith, Float}
 use Rattle.lists.specs.UpTo.{listed}
 use Rattle.lists.proofs.UpTo.{up_to-same}
-use Rattle.refusals.specs.declared.Checked.TheVariants.{Accepted}
 use Rattle.refusals.proofs.Laws.{or_else_accepted, test-held}
 use Rattle.records.specs.AcNetwork.{AcNetwork}
 use Rattle.numbering.proofs.Numbers.{numbers}
@@ -27,7 +21,7 @@ module _ (n m k : ℕ) (o : Operand) (starts rows weights elements : ℕ) where
     pub has : has_operand o ≡ true
     pub room : Room (operand_len n m k o) starts rows weights elements
 
-  pub fitting : operand_cause n m k o starts rows weights elements ≡ Accepted → Fitting
+  pub fitting : operand_cause n m k o starts rows weights elements ≡ passed → Fitting
   unfolding operand_cause
   fitting h =
       let a = or_else_accepted _ _ h in

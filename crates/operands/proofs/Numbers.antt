@@ -1,8 +1,5 @@
 -- The numbers that a layout gives are those of its network, and few. Assumes nothing.
-use Prim.Native.Nat.{ℕ, ◌≤◌}
-use mathlib.Core.Path.{◌≡◌, refl}
-use mathlib.Core.List.{List}
-use native.Mathlib.Omega.{arith}
+use Rattle.std.proofs.Common.{ℕ, ◌≤◌, ◌≡◌, refl, List, arith}
 use Rattle.numbering.specs.Numbering.{column_number}
 use Rattle.numbering.specs.Layout.{layout_column}
 use Rattle.numbering.specs.Laid.{net_of, Laid}

@@ -1,7 +1,5 @@
 -- The check of an operand's selector goes by document 01's order: the record check, 9, 10. Assumes nothing.
-use Prim.Native.Nat.{ℕ}
-use mathlib.Core.Path.{◌≡◌, refl}
-use mathlib.Core.List.{List, ◌∷◌}
+use Rattle.std.proofs.Common.{ℕ, ◌≡◌, refl, List, ◌∷◌}
 use Rattle.refusals.specs.Refusals.{refuse_unless}
 use Rattle.refusals.specs.Order.{sooner, by_order}
 use Rattle.refusals.specs.declared.Refusal.TheVariants.{NotInSocWr}

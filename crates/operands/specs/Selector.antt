@@ -1,8 +1,7 @@
 -- `operand_selector` of sens/conic.rs: one row of [x, z] of weight 1.0 for each item, and the sign.
 use Rattle.std.specs.Prelude.{ℕ, List, Float}
 use Rattle.lists.specs.UpTo.{listed}
-use Rattle.refusals.specs.Refusals.{◌or_else◌, refuse_unless}
-use Rattle.refusals.specs.declared.Checked.{Checked}
+use Rattle.refusals.specs.Refusals.{◌or_else◌, refuse_unless, Checked}
 use Rattle.refusals.specs.declared.Refusal.TheVariants.{NotInSocWr}
 use Rattle.records.specs.AcNetwork.{AcNetwork}
 use Rattle.records.specs.Check.{check_of}

@@ -2,17 +2,16 @@
 #![tactic(auto)]
 
 ghost use Rattle.std.specs.Prelude.{◌≡◌, length};
-ghost use Rattle.refusals.specs.Refusals.{left_in};
+ghost use Rattle.refusals.specs.Refusals.{answer_if, left_in};
 ghost use Rattle.records.specs.Network.{network_of};
-ghost use Rattle.interface.specs.Selectors.{unit_starts, unit_weights, selected_if};
+ghost use Rattle.interface.specs.Selectors.{unit_starts, unit_weights, items_of};
 ghost use Rattle.elements.specs.Lengths.{operand_len};
 ghost use Rattle.operands.specs.Selector.{operand_check, selector_rows, selector_elements, selector_sign};
 
 use inner::selector::selector_of;
-use interface::inner::selected_if;
-use interface::{Operand, Selected};
-use numbering::layout::check_layout;
-use refusals::is_refused;
+use interface::{Items, Operand};
+use numbering::SocWrLayout;
+use refusals::Refusal;
 
 mod inner;
 
@@ -28,25 +27,13 @@ pub fn operand_selector(
     rows: &mut [u32],
     weights: &mut [f64],
     elements: &mut [u32],
-) -> Selected
-    ensures value { result ≡ selected_if (operand_check n m k s bytes.now operand (length starts.old) (length rows.old) (length weights.old) (length elements.old)) (operand_len n m k operand) (selector_sign operand) }
+) -> Result<Items, Refusal>
+    ensures value { result ≡ answer_if (operand_check n m k s bytes.now operand (length starts.old) (length rows.old) (length weights.old) (length elements.old)) (items_of (operand_len n m k operand) (selector_sign operand)) }
     ensures starts_after { starts.new ≡ left_in (operand_check n m k s bytes.now operand (length starts.old) (length rows.old) (length weights.old) (length elements.old)) (unit_starts (operand_len n m k operand)) starts.old }
     ensures rows_after { rows.new ≡ left_in (operand_check n m k s bytes.now operand (length starts.old) (length rows.old) (length weights.old) (length elements.old)) (selector_rows (network_of n m k s bytes.now) operand) rows.old }
     ensures weights_after { weights.new ≡ left_in (operand_check n m k s bytes.now operand (length starts.old) (length rows.old) (length weights.old) (length elements.old)) (unit_weights (operand_len n m k operand)) weights.old }
     ensures elements_after { elements.new ≡ left_in (operand_check n m k s bytes.now operand (length starts.old) (length rows.old) (length weights.old) (length elements.old)) (selector_elements (operand_len n m k operand)) elements.old }
 {
-    let checked = check_layout(n, m, k, s, bytes, 0);
-    let check = checked.check;
-    if is_refused(check) {
-        return selected_if(check, 0, 0.0);
-    }
-    selector_of(
-        checked.layout,
-        bytes,
-        operand,
-        starts,
-        rows,
-        weights,
-        elements,
-    )
+    let layout = SocWrLayout::new(n, m, k, s, bytes)?;
+    selector_of(layout, bytes, operand, starts, rows, weights, elements)
 }

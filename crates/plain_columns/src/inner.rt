@@ -13,7 +13,7 @@ ghost use Rattle.plain_columns.specs.Cases.{voltage_row, gen_row, dbdp, cost_slo
 use admittance::inner::stores::value;
 use elements::inner::power::balance_row;
 use interface::{Bound, CostTerm, Power};
-use lists::inner::store_f64;
+use lists::inner::store;
 use numbering::SocWrLayout;
 
 fn voltage_row(l: SocWrLayout, bound: Bound, i: usize) -> u32
@@ -27,36 +27,16 @@ fn voltage_row(l: SocWrLayout, bound: Bound, i: usize) -> u32
     }
 }
 
-fn active_row(l: SocWrLayout, bound: Bound, g: usize) -> u32
-    requires in_range { InRange l }
-    requires g_lt_k { g < l.k }
-    ensures { result ≡ layout_row l (gen_row Power.Active bound g) }
-{
-    match bound {
-        Bound::Max => l.pgub_row(g),
-        Bound::Min => l.pglb_row(g),
-    }
-}
-
-fn reactive_row(l: SocWrLayout, bound: Bound, g: usize) -> u32
-    requires in_range { InRange l }
-    requires g_lt_k { g < l.k }
-    ensures { result ≡ layout_row l (gen_row Power.Reactive bound g) }
-{
-    match bound {
-        Bound::Max => l.qgub_row(g),
-        Bound::Min => l.qglb_row(g),
-    }
-}
-
 fn gen_row(l: SocWrLayout, power: Power, bound: Bound, g: usize) -> u32
     requires in_range { InRange l }
     requires g_lt_k { g < l.k }
     ensures { result ≡ layout_row l (gen_row power bound g) }
 {
-    match power {
-        Power::Active => active_row(l, bound, g),
-        Power::Reactive => reactive_row(l, bound, g),
+    match (power, bound) {
+        (Power::Active, Bound::Max) => l.pgub_row(g),
+        (Power::Active, Bound::Min) => l.pglb_row(g),
+        (Power::Reactive, Bound::Max) => l.qgub_row(g),
+        (Power::Reactive, Bound::Min) => l.qglb_row(g),
     }
 }
 
@@ -84,7 +64,7 @@ pub fn demand(l: SocWrLayout, power: Power, i: usize, column: &mut [f64])
     ensures { column.new ≡ stored_all (put (kkt_in l (price_row power i)) (constant64 minus_one) ∷ []) column.old }
 {
     let row = balance_row(l, power, i) as usize;
-    store_f64(column, l.column_count() as usize + row, -1.0);
+    store(column, l.column_count() as usize + row, -1.0);
 }
 
 // A bound's row: z times db/dp.
@@ -92,7 +72,7 @@ fn bound_at(nvar: u32, row: u32, bound: Bound, z: &[f64], column: &mut [f64])
     ensures { column.new ≡ stored_all (put (nvar + row) (mul binary64 (get_or z.now row nan) (dbdp bound)) ∷ []) column.old }
 {
     let r = row as usize;
-    store_f64(column, nvar as usize + r, value(z, r) * dbdp(bound));
+    store(column, nvar as usize + r, value(z, r) * dbdp(bound));
 }
 
 pub fn voltage_bound(l: SocWrLayout, bound: Bound, i: usize, z: &[f64], column: &mut [f64])
@@ -130,5 +110,5 @@ pub fn cost(l: SocWrLayout, term: CostTerm, g: usize, x: &[f64], column: &mut [f
     ensures { column.new ≡ stored_all (put (layout_column l (Pg g)) (cost_slope term (get_or x.now (layout_column l (Pg g)) nan)) ∷ []) column.old }
 {
     let col = l.pg_column(g) as usize;
-    store_f64(column, col, cost_slope(term, value(x, col)));
+    store(column, col, cost_slope(term, value(x, col)));
 }

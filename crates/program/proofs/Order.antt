@@ -1,9 +1,5 @@
 -- The checks of P, q, A and b go by document 01's order: the record check, then 10. Assumes nothing.
-use Prim.Native.Nat.{ℕ}
-use mathlib.Core.Path.{◌≡◌, refl}
-use mathlib.Core.List.{List, [], ◌∷◌}
-use lib.ListN.{length}
-use lib.Ieee.{Float}
+use Rattle.std.proofs.Common.{ℕ, ◌≡◌, refl, List, [], ◌∷◌, length, Float}
 use Rattle.lists.specs.Entries.{Cell}
 use Rattle.lists.specs.Compressed.{joined, starts_from}
 use Rattle.refusals.specs.Refusals.{room_for}

@@ -2,16 +2,14 @@
 use Rattle.std.specs.Prelude.{ℕ, ◌≡◌, List, map, length, Float}
 use Rattle.lists.specs.Entries.{Cell, cell_row, cell_val}
 use Rattle.lists.specs.Compressed.{joined, starts_from}
-use Rattle.refusals.specs.Refusals.{◌or_else◌, room_for, written_if, left_in}
-use Rattle.refusals.specs.declared.Checked.{Checked}
-use Rattle.refusals.specs.declared.Written.{Written}
+use Rattle.refusals.specs.Refusals.{◌or_else◌, room_for, answer_if, left_in, Checked, Written}
 
 -- one list of floats; 10: "an output slice too short"
 unfoldable pub floats_check : Checked → List Float → List Float → Checked
 floats_check check xs ys = check or_else room_for (length xs) (length ys)
 
 pub record FloatsWritten (check : Checked) (xs ys₀ ys : List Float) (r : Written) : Type 0 where
-  pub answer : r ≡ written_if (floats_check check xs ys₀) (length xs)
+  pub answer : r ≡ answer_if (floats_check check xs ys₀) (length xs)
   pub left : ys ≡ left_in (floats_check check xs ys₀) xs ys₀
 
 -- compressed columns: "Output lists come as starts, rows, columns, values"; "length needed by the first short one"; "Number 10 states the
@@ -24,7 +22,7 @@ columns_check check cs ss rs vs =
     or_else room_for (length (joined cs)) (length vs)
 
 pub record ColumnsWritten (check : Checked) (cs : List (List Cell)) (ss₀ rs₀ : List ℕ) (vs₀ : List Float) (ss rs : List ℕ) (vs : List Float) (r : Written) : Type 0 where
-  pub answer : r ≡ written_if (columns_check check cs ss₀ rs₀ vs₀) (length (joined cs))
+  pub answer : r ≡ answer_if (columns_check check cs ss₀ rs₀ vs₀) (length (joined cs))
   pub starts : ss ≡ left_in (columns_check check cs ss₀ rs₀ vs₀) (starts_from 0 cs) ss₀
   pub rows : rs ≡ left_in (columns_check check cs ss₀ rs₀ vs₀) (map cell_row (joined cs)) rs₀
   pub values : vs ≡ left_in (columns_check check cs ss₀ rs₀ vs₀) (map cell_val (joined cs)) vs₀

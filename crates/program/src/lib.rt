@@ -7,33 +7,39 @@ ghost use Rattle.rows.specs.Program.{linear, matrix};
 ghost use Rattle.matrix.specs.Lists.{right_side, quadratic_matrix};
 ghost use Rattle.program.specs.Answered.{FloatsWritten, ColumnsWritten};
 
-use numbering::layout::check_layout;
-use refusals::{Written, is_refused, written_if};
+use numbering::SocWrLayout;
+use refusals::Refusal;
 
 mod sized;
 
+// Kept: P and A, and b and q, are an entry each: each has its own definition and its own writer, and their bodies are a line.
+
 // b: ncon floats.
-pub fn program_b(n: usize, m: usize, k: usize, s: usize, bytes: &[u8], b: &mut [f64]) -> Written
+pub fn program_b(
+    n: usize,
+    m: usize,
+    k: usize,
+    s: usize,
+    bytes: &[u8],
+    b: &mut [f64],
+) -> Result<u64, Refusal>
     ensures { FloatsWritten (check_of n m k s bytes.now) (right_side (network_of n m k s bytes.now)) b.old b.new result }
 {
-    let checked = check_layout(n, m, k, s, bytes, 0);
-    let check = checked.check;
-    if is_refused(check) {
-        return written_if(check, 0);
-    }
-    sized::put_b(b, checked.layout, bytes)
+    sized::put_b(b, SocWrLayout::new(n, m, k, s, bytes)?, bytes)
 }
 
 // q: nvar floats.
-pub fn program_q(n: usize, m: usize, k: usize, s: usize, bytes: &[u8], q: &mut [f64]) -> Written
+pub fn program_q(
+    n: usize,
+    m: usize,
+    k: usize,
+    s: usize,
+    bytes: &[u8],
+    q: &mut [f64],
+) -> Result<u64, Refusal>
     ensures { FloatsWritten (check_of n m k s bytes.now) (linear (network_of n m k s bytes.now)) q.old q.new result }
 {
-    let checked = check_layout(n, m, k, s, bytes, 0);
-    let check = checked.check;
-    if is_refused(check) {
-        return written_if(check, 0);
-    }
-    sized::put_q(q, checked.layout, bytes)
+    sized::put_q(q, SocWrLayout::new(n, m, k, s, bytes)?, bytes)
 }
 
 // P by compressed columns: nvar + 1 starts, and the rows and values of its entries.
@@ -46,15 +52,16 @@ pub fn program_p(
     starts: &mut [u32],
     rows: &mut [u32],
     values: &mut [f64],
-) -> Written
+) -> Result<u64, Refusal>
     ensures { ColumnsWritten (check_of n m k s bytes.now) (quadratic_matrix (network_of n m k s bytes.now)) starts.old rows.old values.old starts.new rows.new values.new result }
 {
-    let checked = check_layout(n, m, k, s, bytes, 0);
-    let check = checked.check;
-    if is_refused(check) {
-        return written_if(check, 0);
-    }
-    sized::put_p(starts, rows, values, checked.layout, bytes)
+    sized::put_p(
+        starts,
+        rows,
+        values,
+        SocWrLayout::new(n, m, k, s, bytes)?,
+        bytes,
+    )
 }
 
 // A by compressed columns: nvar + 1 starts, and the rows and values of its entries, rows ascending in a column.
@@ -67,13 +74,14 @@ pub fn program_a(
     starts: &mut [u32],
     rows: &mut [u32],
     values: &mut [f64],
-) -> Written
+) -> Result<u64, Refusal>
     ensures { ColumnsWritten (check_of n m k s bytes.now) (matrix (network_of n m k s bytes.now)) starts.old rows.old values.old starts.new rows.new values.new result }
 {
-    let checked = check_layout(n, m, k, s, bytes, 0);
-    let check = checked.check;
-    if is_refused(check) {
-        return written_if(check, 0);
-    }
-    sized::put_a(starts, rows, values, checked.layout, bytes)
+    sized::put_a(
+        starts,
+        rows,
+        values,
+        SocWrLayout::new(n, m, k, s, bytes)?,
+        bytes,
+    )
 }

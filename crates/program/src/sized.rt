@@ -1,6 +1,6 @@
 // P, q, A and b into lent lists, from the layout of accepted records.
 ghost use Rattle.std.specs.Prelude.{◌≡◌, ◌+◌, ◌≤◌, length};
-ghost use Rattle.refusals.specs.declared.Checked.TheVariants.{Accepted};
+ghost use Rattle.refusals.specs.Refusals.{passed};
 ghost use Rattle.numbering.specs.Layout.{InRange, nvar_of};
 ghost use Rattle.numbering.specs.Laid.{net_of, Laid};
 ghost use Rattle.rows.specs.Program.{linear, matrix};
@@ -10,30 +10,26 @@ ghost use Rattle.program.specs.Answered.{FloatsWritten, ColumnsWritten};
 
 use assembly::inner::{count_a, fill_a};
 use numbering::SocWrLayout;
-use refusals::{Refusal, Written};
+use refusals::{Refusal, room_for};
 
-pub(crate) fn put_b(b: &mut [f64], l: SocWrLayout, bytes: &[u8]) -> Written
+pub(crate) fn put_b(b: &mut [f64], l: SocWrLayout, bytes: &[u8]) -> Result<u64, Refusal>
     requires { Laid l bytes.now }
-    ensures { FloatsWritten Accepted (right_side (net_of l bytes.now)) b.old b.new result }
+    ensures { FloatsWritten passed (right_side (net_of l bytes.now)) b.old b.new result }
 {
     let need = l.row_count() as usize;
-    if b.len() < need {
-        return Written::Refused(Refusal::OutputTooShort(need as u64));
-    }
+    room_for(need, b.len())?;
     sides::inner::fill_b(b, l, bytes);
-    Written::Count(need as u64)
+    Ok(need as u64)
 }
 
-pub(crate) fn put_q(q: &mut [f64], l: SocWrLayout, bytes: &[u8]) -> Written
+pub(crate) fn put_q(q: &mut [f64], l: SocWrLayout, bytes: &[u8]) -> Result<u64, Refusal>
     requires { Laid l bytes.now }
-    ensures { FloatsWritten Accepted (linear (net_of l bytes.now)) q.old q.new result }
+    ensures { FloatsWritten passed (linear (net_of l bytes.now)) q.old q.new result }
 {
     let need = l.column_count() as usize;
-    if q.len() < need {
-        return Written::Refused(Refusal::OutputTooShort(need as u64));
-    }
+    room_for(need, q.len())?;
     quadratic::inner::linear::fill_q(q, l, bytes);
-    Written::Count(need as u64)
+    Ok(need as u64)
 }
 
 pub(crate) fn put_p(
@@ -42,23 +38,17 @@ pub(crate) fn put_p(
     values: &mut [f64],
     l: SocWrLayout,
     bytes: &[u8],
-) -> Written
+) -> Result<u64, Refusal>
     requires { Laid l bytes.now }
-    ensures { ColumnsWritten Accepted (quadratic_matrix (net_of l bytes.now)) starts.old rows.old values.old starts.new rows.new values.new result }
+    ensures { ColumnsWritten passed (quadratic_matrix (net_of l bytes.now)) starts.old rows.old values.old starts.new rows.new values.new result }
 {
     let need = l.column_count() as usize + 1;
-    if starts.len() < need {
-        return Written::Refused(Refusal::OutputTooShort(need as u64));
-    }
+    room_for(need, starts.len())?;
     let count = quadratic::inner::count_p(l, bytes);
-    if rows.len() < count {
-        return Written::Refused(Refusal::OutputTooShort(count as u64));
-    }
-    if values.len() < count {
-        return Written::Refused(Refusal::OutputTooShort(count as u64));
-    }
+    room_for(count, rows.len())?;
+    room_for(count, values.len())?;
     let written = quadratic::inner::fill_p(starts, rows, values, l, bytes);
-    Written::Count(written as u64)
+    Ok(written as u64)
 }
 
 fn most(l: SocWrLayout) -> usize
@@ -74,20 +64,16 @@ fn put_counted(
     values: &mut [f64],
     l: SocWrLayout,
     bytes: &[u8],
-) -> Written
+) -> Result<u64, Refusal>
     requires laid { Laid l bytes.now }
     requires l_in_bounds { nvar_of l + 1 ≤ length starts.old }
-    ensures { ColumnsWritten Accepted (matrix (net_of l bytes.now)) starts.old rows.old values.old starts.new rows.new values.new result }
+    ensures { ColumnsWritten passed (matrix (net_of l bytes.now)) starts.old rows.old values.old starts.new rows.new values.new result }
 {
     let count = count_a(l, bytes);
-    if rows.len() < count {
-        return Written::Refused(Refusal::OutputTooShort(count as u64));
-    }
-    if values.len() < count {
-        return Written::Refused(Refusal::OutputTooShort(count as u64));
-    }
+    room_for(count, rows.len())?;
+    room_for(count, values.len())?;
     let written = fill_a(starts, rows, values, l, bytes);
-    Written::Count(written as u64)
+    Ok(written as u64)
 }
 
 // Counted before it is written, unless the lists hold the most entries that A can have.
@@ -97,20 +83,17 @@ fn put_sized(
     values: &mut [f64],
     l: SocWrLayout,
     bytes: &[u8],
-) -> Written
+) -> Result<u64, Refusal>
     requires laid { Laid l bytes.now }
     requires l_in_bounds { nvar_of l + 1 ≤ length starts.old }
-    ensures { ColumnsWritten Accepted (matrix (net_of l bytes.now)) starts.old rows.old values.old starts.new rows.new values.new result }
+    ensures { ColumnsWritten passed (matrix (net_of l bytes.now)) starts.old rows.old values.old starts.new rows.new values.new result }
 {
     let most = most(l);
-    if rows.len() < most {
-        return put_counted(starts, rows, values, l, bytes);
-    }
-    if values.len() < most {
+    if rows.len() < most || values.len() < most {
         return put_counted(starts, rows, values, l, bytes);
     }
     let written = fill_a(starts, rows, values, l, bytes);
-    Written::Count(written as u64)
+    Ok(written as u64)
 }
 
 pub(crate) fn put_a(
@@ -119,13 +102,11 @@ pub(crate) fn put_a(
     values: &mut [f64],
     l: SocWrLayout,
     bytes: &[u8],
-) -> Written
+) -> Result<u64, Refusal>
     requires { Laid l bytes.now }
-    ensures { ColumnsWritten Accepted (matrix (net_of l bytes.now)) starts.old rows.old values.old starts.new rows.new values.new result }
+    ensures { ColumnsWritten passed (matrix (net_of l bytes.now)) starts.old rows.old values.old starts.new rows.new values.new result }
 {
     let need = l.column_count() as usize + 1;
-    if starts.len() < need {
-        return Written::Refused(Refusal::OutputTooShort(need as u64));
-    }
+    room_for(need, starts.len())?;
     put_sized(starts, rows, values, l, bytes)
 }

@@ -1,12 +1,7 @@
 -- q is zeros with the costs written at pg and ones at the cost columns: by its name a column is in one of these two runs, or its element is zero.
 -- Assumes nothing.
-use Prim.Native.Nat.{ℕ, ◌+◌, ◌≤◌, ◌<◌}
-use mathlib.Core.Path.{◌≡◌, refl, sym, ap, ◌∙◌}
-use mathlib.Core.Logic.{◌⊎◌, inl, inr, ⊎_elim}
-use mathlib.Core.List.{List, [], ◌∷◌}
-use native.Mathlib.Omega.{arith}
-use lib.ListN.{length}
-use lib.Ieee.{Float, binary64, add}
+use Rattle.std.proofs.Common.{ℕ, ◌+◌, ◌≤◌, ◌<◌, ◌≡◌, refl, sym, ap, ◌∙◌, ◌⊎◌, inl, inr, ⊎_elim, List, [], ◌∷◌, arith, length, Float}
+use lib.Ieee.{binary64, add}
 use Rattle.lists.specs.UpTo.{listed, overlay, bit, sum}
 use Rattle.lists.proofs.Each.{each_ext, each-sums}
 use Rattle.lists.proofs.Sums.{sum_room}
@@ -25,7 +20,8 @@ use Rattle.ring.specs.Ops.{rounded}
 use Rattle.rows.specs.Rows.{zero64}
 use Rattle.rows.specs.Program.{linear_at, linear}
 use Rattle.cells.specs.Filled.{Filled}
-use Rattle.cells.proofs.Fills.{listed-length, kept-length}
+use Rattle.lists.proofs.Listed.{listed-length}
+use Rattle.cells.proofs.Fills.{kept-length}
 use Rattle.cells.specs.Runs.{Run, run, RunsOver}
 use Rattle.quadratic.specs.Linear.{linear_cost}
 use Rattle.cells.proofs.Runs.{Windows, none, more, Covered, runs_front, sets_outside, window_inside}

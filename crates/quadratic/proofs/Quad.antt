@@ -1,12 +1,6 @@
 -- P by columns, in the parts in which the code writes it. Assumes nothing.
-use Prim.Native.Nat.{ℕ, ◌+◌, ◌-◌, ◌<◌}
-use mathlib.Core.Path.{◌≡◌, sym, ap, ◌∙◌}
-use mathlib.Core.List.{List, [], ◌∷◌, ◌++◌, append-nil}
-use native.Mathlib.Omega.{arith}
-use lib.Dec.{eqb}
-use lib.ListN.{length}
-use lib.Ieee.{Float, ne}
-use borrow.Author.Tests.{eq-eqb, ne_eqb}
+use Rattle.std.proofs.Common.{ℕ, ◌+◌, ◌-◌, ◌<◌, ◌≡◌, sym, ap, ◌∙◌, List, [], ◌∷◌, ◌++◌, append-nil, arith, eqb, length, Float, eq-eqb, ne_eqb}
+use lib.Ieee.{ne}
 use Rattle.lists.specs.UpTo.{each, listed, when}
 use Rattle.lists.specs.Entries.{Cell, entry, select}
 use Rattle.lists.specs.Compressed.{joined, starts_from}
@@ -26,7 +20,7 @@ use Rattle.matrix.specs.Lists.{quadratic_matrix}
 use Rattle.matrix.specs.Columns.{one_cell, nonzero_cell}
 use Rattle.matrix.proofs.Same.{select-each, select_when}
 use Rattle.quadratic.specs.Quadratic.{quad_value, quad_cells, quad_count}
-use Rattle.cells.proofs.Fills.{listed-length}
+use Rattle.lists.proofs.Listed.{listed-length}
 use Rattle.cells.proofs.Sizes.{nonzero-length}
 
 select-one : (c r : ℕ) (v : Float) → select c (entry r r v ∷ []) ≡ when (eqb r c) (one_cell r v)

@@ -11,7 +11,7 @@ ghost use Rattle.numbering.specs.Laid.{net_of, Laid};
 ghost use Rattle.numbering.specs.declared.ColumnName.TheVariants.{Pg};
 
 use cells::inner::{bit_nonzero, put_nonzero};
-use lists::inner::store_u32;
+use lists::inner::store;
 use numbering::SocWrLayout;
 
 pub mod linear;
@@ -30,12 +30,9 @@ pub fn count_p(l: SocWrLayout, bytes: &[u8]) -> usize
     requires { Laid l bytes.now }
     ensures { result ≡ quad_count l bytes.now l.k }
 {
-    let k = l.k;
     let mut count = 0;
-    let mut g = 0;
-    while g < k {
+    for g in 0..l.k {
         count += bit_nonzero(quad_value(l, bytes, g));
-        g += 1;
     }
     count
 }
@@ -52,15 +49,12 @@ fn put_quads(
     ensures columns { Columns (listed l.k (quad_cells l bytes.now)) (layout_column l (Pg 0)) starts.old (cell_out rows.old vals.old 0) starts.new (cell_out rows.new vals.new result) }
     ensures upper_bound { result ≤ l.k }
 {
-    let k = l.k;
     let pg = l.pg_column(0) as usize;
     let mut next = 0;
-    let mut g = 0;
-    while g < k {
+    for g in 0..l.k {
         let v = quad_value(l, bytes, g);
         next = put_nonzero(rows, vals, next, (pg + g) as u32, v);
-        store_u32(starts, pg + g + 1, next as u32);
-        g += 1;
+        store(starts, pg + g + 1, next as u32);
     }
     next
 }
@@ -70,10 +64,8 @@ fn put_empty(starts: &mut [u32], c: usize, count: usize, at: u32)
     requires { c + count < 1000000 }
     ensures { Filled (listed count (λ j. at)) starts.old (c + 1) starts.new }
 {
-    let mut i = 0;
-    while i < count {
-        store_u32(starts, c + 1 + i, at);
-        i += 1;
+    for i in 0..count {
+        store(starts, c + 1 + i, at);
     }
 }
 
@@ -91,7 +83,7 @@ pub fn fill_p(
     let pg = l.pg_column(0) as usize;
     let behind = l.pg_column(l.k) as usize;
     let others = l.column_count() as usize - behind;
-    store_u32(starts, 0, 0);
+    store(starts, 0, 0);
     put_empty(starts, 0, pg, 0);
     let next = put_quads(starts, rows, vals, l, bytes);
     put_empty(starts, behind, others, next as u32);

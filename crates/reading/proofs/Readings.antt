@@ -1,28 +1,17 @@
 -- Laws of the checks and of the lists that are read. Assumes nothing.
-use Prim.Native.Nat.{ℕ, zero, suc, ◌+◌, ◌≤◌, ◌<◌}
-use mathlib.Core.Path.{◌≡◌, refl, sym, ◌∙◌, ap, ap₂, subst}
-use mathlib.Core.Bool.{true, false}
-use mathlib.Core.List.{List, [], ◌∷◌, ◌++◌}
-use native.Mathlib.Omega.{arith}
-use borrow.Author.Tests.{leb-true, lt-ltb, le-ltb}
-use lib.Dec.{T, ltb}
-use lib.ListN.{length, take, drop, get_or, length-take, length-drop}
-use lib.Seq.{ext_get_or, get_or-take, get_or-drop}
-use lib.Ieee.{Float, nan, neg}
+use Rattle.std.proofs.Common.{Result, Ok, Err, ℕ, ◌+◌, ◌≤◌, ◌≡◌, refl, sym, ◌∙◌, ap, ap₂, List, [], ◌∷◌, ◌++◌, arith, leb-true, length}
+use Rattle.std.proofs.Common.{take, drop, get_or, length-take, length-drop, ext_get_or, get_or-take, get_or-drop, Float}
+use lib.Ieee.{nan, neg}
 use Rattle.lists.specs.UpTo.{listed, overlay}
 use Rattle.lists.proofs.Each.{each_ext}
 use Rattle.lists.proofs.Listed.{listed-length, listed_at}
-use Rattle.refusals.specs.Refusals.{◌or_else◌, is_refused, refuse_unless, left_in}
-use Rattle.refusals.specs.declared.Checked.{Checked}
-use Rattle.refusals.specs.declared.Checked.TheVariants.{Accepted, Refused}
-use Rattle.refusals.specs.declared.Refusal.TheVariants.{PastEnd}
-use Rattle.refusals.proofs.Laws.{passed, or_else_accepted, test-held, left-written}
+use Rattle.refusals.specs.Refusals.{Checked, passed, left_in, answer_if}
+use Rattle.refusals.specs.declared.Refusal.{Refusal}
+use Rattle.refusals.proofs.Laws.{or_else_accepted, test-held, left-written, held_by, refused_by}
 use Rattle.records.specs.Network.{network_of}
-use Rattle.records.specs.Check.{check_of}
 use Rattle.records.proofs.Laws.{accepted}
 use Rattle.numbering.specs.Numbering.{ncon, column_number, row_number}
 use Rattle.numbering.specs.Layout.{layout_of, layout_column, layout_row, nvar_of, ncon_of}
-use Rattle.numbering.specs.Lookups.{layout_if}
 use Rattle.numbering.specs.Laid.{net_of, Laid}
 use Rattle.numbering.specs.declared.SocWrLayout.{SocWrLayout}
 use Rattle.numbering.specs.declared.ColumnName.TheVariants.{Qg, W, Wr, Wi, Pf, Pt, Qf, Qt}
@@ -30,20 +19,11 @@ use Rattle.numbering.specs.declared.RowName.TheVariants.{Pbal, Qbal}
 use Rattle.numbering.proofs.Laid.{laid, laid-nvar, laid-ncon, laid-row, pg_follows, pg_fits}
 use Rattle.numbering.proofs.Numbers.{column-number, layout-column, layout_row_lem, layout-nvar}
 use Rattle.solution.proofs.Lengths.{x_long, z_long}
-use Rattle.reading.specs.Reading.{part_column, part_count, part_list, part_if, part_check, part_of, prices_check, price_list, scalar_if, objective_at}
+use Rattle.reading.specs.Reading.{part_column, part_count, part_list, part_if, part_check, part_of, prices_check, price_list}
 use Rattle.reading.specs.declared.SolutionList.{SolutionList}
 use Rattle.reading.proofs.Halves.{negated}
-use Rattle.reading.specs.declared.SolutionList.TheVariants as SolutionList
-use Rattle.reading.specs.declared.PreparedObjective.TheVariants.{Other}
-use Rattle.reading.specs.declared.Scalar.{Scalar}
-use Rattle.reading.specs.declared.Scalar.TheVariants as Scalar
 
 -- ---- a part of x
-no_part : (r : Checked) (xs : List Float) → is_refused r ≡ true → ◌≡◌ {A = List Float} [] (part_if r xs)
-unfolding part_if is_refused
-no_part Accepted xs h = absurd (subst T (sym h) tt)
-no_part (Refused cause) xs h = refl
-
 -- count values from the start on
 values : (x : List Float) (at count : ℕ) → at + count ≤ length x → take count (drop at x) ≡ listed count (λ i. get_or x (at + i) nan)
 values x at count h =
@@ -87,28 +67,28 @@ module _ (l : SocWrLayout) (b : List ℕ) where
 
 module _ (n m k s : ℕ) (b : List ℕ) where
   -- a check that did not refuse: the layout is the network's, and x has its length
-  pub part-laid : (x : List Float) {r : Checked} {l : SocWrLayout} → r ≡ part_check n m k s b x → is_refused r ≡ false → l ≡ layout_if (check_of n m k s b) (network_of n m k s b)
-      → (l ≡ layout_of (network_of n m k s b)) × Laid l b × (length x ≡ nvar_of l)
-  unfolding part_check
-  part-laid x {r} {l} e h f =
-      let p = or_else_accepted _ _ (sym e ∙ passed r h) in
-      let g : l ≡ layout_of (network_of n m k s b) = rw p.0 at f in
-      let a = laid n m k s b (accepted n m k s b p.0) g in
-      (g, a, x_long _ _ p.1 ∙ rw (laid-nvar l b a, g))
+  module _ (x : List Float) {r : Result SocWrLayout Refusal} (e : r ≡ answer_if (part_check n m k s b x) (layout_of (network_of n m k s b))) where
+    pub part-laid : {l : SocWrLayout} → r ≡ Ok l → (l ≡ layout_of (network_of n m k s b)) × Laid l b × (length x ≡ nvar_of l)
+    unfolding part_check
+    part-laid {l} h =
+        let p = held_by _ _ e h in
+        let q = or_else_accepted _ _ p.0 in
+        let g : l ≡ layout_of (network_of n m k s b) = sym p.1 in
+        let a = laid n m k s b (accepted n m k s b q.0) g in
+        (g, a, x_long _ _ q.1 ∙ rw (laid-nvar l b a, g))
 
-  -- read, and refused
-  pub part-read : (x : List Float) (p : SolutionList) {at count : ℕ} {r : Checked} {l : SocWrLayout}
-      → r ≡ part_check n m k s b x → is_refused r ≡ false → l ≡ layout_if (check_of n m k s b) (network_of n m k s b)
-      → at ≡ layout_column l (part_column p 0) → count ≡ part_count l.n l.m l.k p → take count (drop at x) ≡ part_of n m k s b x p
-  unfolding part_of part_if
-  part-read x p {at} {count} {r} {l} e h f g c =
-      let w = part-laid x e h f in
-      let q : take count (drop at x) ≡ part_list (net_of l b) x p = rw (g, c) (part-is l b x p w.2) in
-      rw (sym e ∙ passed r h) (rw w.0 at q)
+    -- read, and refused
+    pub part-read : {l : SocWrLayout} → r ≡ Ok l → (p : SolutionList) {at count : ℕ}
+        → at ≡ layout_column l (part_column p 0) → count ≡ part_count l.n l.m l.k p → take count (drop at x) ≡ part_of n m k s b x p
+    unfolding part_of part_if
+    part-read {l} h p {at} {count} g c =
+        let w = part-laid h in
+        let q : take count (drop at x) ≡ part_list (net_of l b) x p = rw (g, c) (part-is l b x p w.2) in
+        rw (held_by _ _ e h).0 (rw w.0 at q)
 
-  pub part-refused : (x : List Float) (p : SolutionList) {r : Checked} → r ≡ part_check n m k s b x → is_refused r ≡ true → ◌≡◌ {A = List Float} [] (part_of n m k s b x p)
-  unfolding part_of
-  part-refused x p e h = rw (← e) (no_part _ _ h)
+    pub part-refused : {cause : Refusal} → r ≡ Err cause → (p : SolutionList) → ◌≡◌ {A = List Float} [] (part_of n m k s b x p)
+    unfolding part_of part_if
+    part-refused h p = rw (refused_by _ _ e h) refl
 
 -- ---- the prices
 module _ (n m k s : ℕ) (b : List ℕ) where
@@ -120,13 +100,14 @@ module _ (n m k s : ℕ) (b : List ℕ) where
     pub buses : l.n ≡ n
     pub net : net_of l b ≡ network_of n m k s b
 
-  pub prices_went : {z : List Float} {room : ℕ} {r : Checked} {l : SocWrLayout} → r ≡ prices_check n m k s b z room → is_refused r ≡ false
-      → l ≡ layout_if (check_of n m k s b) (network_of n m k s b) → Priced z room l
+  pub prices_went : {z : List Float} {room : ℕ} {r : Result SocWrLayout Refusal} {l : SocWrLayout}
+      → r ≡ answer_if (prices_check n m k s b z room) (layout_of (network_of n m k s b)) → r ≡ Ok l → Priced z room l
   unfolding prices_check
-  prices_went {z} {l = l} d h e =
-      let p = or_else_accepted _ _ (sym d ∙ passed _ h) in
+  prices_went {z} {l = l} d h =
+      let w = held_by _ _ d h in
+      let p = or_else_accepted _ _ w.0 in
       let q = or_else_accepted _ _ p.1 in
-      let is : l ≡ layout_of (network_of n m k s b) = rw p.0 at e in
+      let is : l ≡ layout_of (network_of n m k s b) = sym w.1 in
       let here : Laid l b = laid n m k s b (accepted n m k s b p.0) is in
       let net : net_of l b ≡ network_of n m k s b = rw is in
       record {
@@ -138,7 +119,7 @@ module _ (n m k s : ℕ) (b : List ℕ) where
       }
 
   pub prices_left : (z ys out : List Float) {c : Checked} {l : SocWrLayout} {active reactive : ℕ} → Laid l b → net_of l b ≡ network_of n m k s b
-      → active ≡ layout_row l (Pbal 0) → reactive ≡ layout_row l (Qbal 0) → c ≡ Accepted
+      → active ≡ layout_row l (Pbal 0) → reactive ≡ layout_row l (Qbal 0) → c ≡ passed
       → out ≡ overlay (negated z n active ++ negated z n reactive) ys → out ≡ left_in c (price_list (network_of n m k s b) z) ys
   unfolding price_list
   prices_left z ys out {l = l} {active} {reactive} h net a r e w =
@@ -154,30 +135,3 @@ module _ (n m k s : ℕ) (b : List ℕ) where
 
       qbal : (i : ℕ) → reactive + i ≡ row_number (network_of n m k s b) (Qbal i)
       qbal i = rw (← net) (omega (arith, r, layout_row_lem l (Qbal 0), layout_row_lem l (Qbal i), laid-row l b h (Qbal i) refl))
-
--- ---- the objective
-pub no_scalar : (c : Checked) (v w : Float) → is_refused c ≡ true → scalar_if c v ≡ scalar_if c w
-unfolding is_refused scalar_if
-no_scalar Accepted v w h = absurd (subst T (sym h) tt)
-no_scalar (Refused cause) v w h = refl
-
-pub scalar_value_lem : {c : Checked} (v : Float) → c ≡ Accepted → scalar_if c v ≡ Scalar.Value v
-unfolding scalar_if
-scalar_value_lem v e = rw e
-
--- a check with one more after it, that refuses or passes
-pub code-refused : (a : Checked) (code : ℕ) → 3 ≤ code → is_refused (a or_else refuse_unless (ltb code 3) (PastEnd code)) ≡ true
-unfolding is_refused refuse_unless ◌or_else◌
-code-refused Accepted code h = rw (le-ltb code 3 h)
-code-refused (Refused cause) code h = refl
-
-pub code-passed : (a : Checked) (code : ℕ) → code < 3 → a or_else refuse_unless (ltb code 3) (PastEnd code) ≡ a
-unfolding refuse_unless ◌or_else◌
-code-passed Accepted code h = rw (lt-ltb code 3 h)
-code-passed (Refused cause) code h = refl
-
-pub code_other : (c : ℕ) → (c ≡ 0 → ⊥) → (c ≡ 1 → ⊥) → Other ≡ objective_at c
-unfolding objective_at
-code_other zero f g = absurd (f refl)
-code_other (suc zero) f g = absurd (g refl)
-code_other (suc (suc c)) f g = refl

@@ -1,11 +1,10 @@
 -- `read_socwr` of problem/conic.rs: the lists of x, the prices and the objective.
-use Rattle.std.specs.Prelude.{ℕ, zero, suc, ◌+◌, List, [], ◌++◌, ltb, length, get_or, Float}
+use Rattle.std.specs.Prelude.{ℕ, zero, suc, ◌+◌, List, [], ◌++◌, ltb, length, get_or, Float, Result, Ok, Err}
 use Rattle.std.specs.Float.{nan}
 use Rattle.std.specs.Float.Ieee.{neg}
 use Rattle.lists.specs.UpTo.{listed}
-use Rattle.refusals.specs.Refusals.{◌or_else◌, refuse_unless, room_for, cause_number, cause_value}
-use Rattle.refusals.specs.declared.Checked.{Checked}
-use Rattle.refusals.specs.declared.Checked.TheVariants.{Accepted, Refused}
+use Rattle.refusals.specs.Refusals.{Checked, ◌or_else◌, refuse_unless, room_for, answer_if, answer_value}
+use Rattle.refusals.specs.declared.Refusal.{Refusal}
 use Rattle.refusals.specs.declared.Refusal.TheVariants.{PastEnd}
 use Rattle.records.specs.AcNetwork.{AcNetwork}
 use Rattle.records.specs.Network.{network_of}
@@ -20,9 +19,6 @@ use Rattle.cost.specs.Cost.{total_cost}
 use Rattle.reading.specs.declared.PreparedObjective.{PreparedObjective}
 use Rattle.reading.specs.declared.PreparedObjective.TheVariants.{Feasibility, NetworkGeneratorCost, Other}
 use Rattle.reading.specs.declared.SolutionList.{SolutionList}
-use Rattle.reading.specs.declared.SolutionList.TheVariants as SolutionList
-use Rattle.reading.specs.declared.Scalar.{Scalar}
-use Rattle.reading.specs.declared.Scalar.TheVariants as Scalar
 
 -- the lists of `SocWrSolution` in x: the column of element i, and how many there are of n buses, m branches, k generators
 abbrev pub part_column : SolutionList → ℕ → ColumnName
@@ -64,8 +60,8 @@ module _ (G : AcNetwork Float) where
 
 -- "A refused reading hands back the empty part"
 unfoldable pub part_if : Checked → List Float → List Float
-part_if Accepted xs = xs
-part_if (Refused cause) xs = []
+part_if (Ok u) xs = xs
+part_if (Err cause) xs = []
 
 -- the codes of the objectives, counted from 0; 3 and above name nothing
 unfoldable pub objective_at : ℕ → PreparedObjective
@@ -73,9 +69,9 @@ objective_at zero = Feasibility
 objective_at (suc zero) = NetworkGeneratorCost
 objective_at (suc (suc c)) = Other
 
-unfoldable pub scalar_if : Checked → Float → Scalar
-scalar_if Accepted v = Scalar.Value v
-scalar_if (Refused cause) v = Scalar.Refused cause
+-- a number, or why there is none
+abbrev pub Scalar : Type 0
+Scalar = Result Float Refusal
 
 -- ---- on counts and records
 module _ (n m k s : ℕ) (b : List ℕ) where
@@ -96,22 +92,17 @@ module _ (n m k s : ℕ) (b : List ℕ) where
       check_of n m k s b or_else z_cause (network_of n m k s b) (length z) or_else room_for (n + n) room
 
   unfoldable pub objective_answer : PreparedObjective → List Float → Float → Scalar
-  objective_answer objective x solver = scalar_if (part_check x) (objective_of (network_of n m k s b) objective x solver)
+  objective_answer objective x solver = answer_if (part_check x) (objective_of (network_of n m k s b) objective x solver)
 
   -- by a code: 7 with a code that names nothing
   unfoldable pub code_answer : ℕ → List Float → Float → Scalar
   code_answer code x solver =
-      scalar_if (part_check x or_else refuse_unless (ltb code 3) (PastEnd code)) (objective_of (network_of n m k s b) (objective_at code) x solver)
+      answer_if (part_check x or_else refuse_unless (ltb code 3) (PastEnd code)) (objective_of (network_of n m k s b) (objective_at code) x solver)
 
--- ---- the number and the values of a scalar answer: 0, 0 and the result, or the cause's and 0.0
-abbrev pub scalar_number : Scalar → ℕ
-scalar_number (Scalar.Value v) = 0
-scalar_number (Scalar.Refused cause) = cause_number cause
-
+-- ---- the value and the result of a scalar answer: 0 and the number, or the cause's and 0.0
 abbrev pub scalar_value : Scalar → ℕ
-scalar_value (Scalar.Value v) = 0
-scalar_value (Scalar.Refused cause) = cause_value cause
+scalar_value a = answer_value (λ v. 0) a
 
 abbrev pub scalar_result : Scalar → Float
-scalar_result (Scalar.Value v) = v
-scalar_result (Scalar.Refused cause) = zero64
+scalar_result (Ok v) = v
+scalar_result (Err cause) = zero64

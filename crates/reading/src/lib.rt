@@ -1,8 +1,6 @@
 // The reading of a solution: the lists of x as parts of it, the prices, the objective.
 #![tactic(auto)]
 
-use refusals::Refusal;
-
 mod checks;
 mod inner;
 mod objectives;
@@ -34,11 +32,4 @@ pub enum PreparedObjective {
     Feasibility,
     NetworkGeneratorCost,
     Other,
-}
-
-// A number, or why there is none.
-#[derive(Clone, Copy)]
-pub enum Scalar {
-    Value(f64),
-    Refused(Refusal),
 }

@@ -2,23 +2,15 @@
 ghost use Rattle.std.specs.Prelude.{◌≡◌, ◌≤◌, length};
 ghost use Rattle.numbering.specs.Layout.{nvar_of};
 ghost use Rattle.numbering.specs.Laid.{net_of, Laid};
-ghost use Rattle.reading.specs.Reading.{scalar_if, objective_of, objective_answer, objective_at, code_answer};
+ghost use Rattle.reading.specs.Reading.{objective_of, objective_answer, objective_at, code_answer};
 
+use crate::PreparedObjective;
 use crate::checks::check_part;
-use crate::{PreparedObjective, Scalar, part_check};
 use cost::inner::total_cost;
 use numbering::SocWrLayout;
-use refusals::{Checked, Refusal, is_refused, or_else};
+use refusals::{Refusal, refuse_unless};
 
-fn scalar_if(check: Checked, v: f64) -> Scalar
-    ensures { result ≡ scalar_if check v }
-{
-    match check {
-        Checked::Accepted => Scalar::Value(v),
-        Checked::Refused(cause) => Scalar::Refused(cause),
-    }
-}
-
+#[tactic(auto, unfolding(crate::specs::Reading::objective_of))]
 fn value(l: SocWrLayout, bytes: &[u8], objective: PreparedObjective, x: &[f64], solver: f64) -> f64
     requires laid { Laid l bytes.now }
     requires l_in_bounds { nvar_of l ≤ length x.now }
@@ -41,18 +33,16 @@ pub fn objective(
     objective: PreparedObjective,
     x: &[f64],
     solver: f64,
-) -> Scalar
+) -> Result<f64, Refusal>
     ensures { result ≡ objective_answer n m k s bytes.now objective x.now solver }
 {
-    let checked = check_part(n, m, k, s, bytes, x);
-    let check = checked.check;
-    if is_refused(check) {
-        return scalar_if(check, 0.0);
-    }
-    Scalar::Value(value(checked.layout, bytes, objective, x, solver))
+    let l = check_part(n, m, k, s, bytes, x)?;
+    Ok(value(l, bytes, objective, x, solver))
 }
 
 // The objective that a caller's code names; 3 and above name nothing.
+// Kept: the C interface names an objective by a number.
+#[tactic(auto, unfolding(crate::specs::Reading::objective_at))]
 fn objective_at(code: u64) -> PreparedObjective
     ensures { result ≡ objective_at code }
 {
@@ -73,12 +63,10 @@ pub fn objective_of_code(
     code: u64,
     x: &[f64],
     solver: f64,
-) -> Scalar
+) -> Result<f64, Refusal>
     ensures { result ≡ code_answer n m k s bytes.now code x.now solver }
 {
-    if 3 <= code {
-        let unnamed = Checked::Refused(Refusal::PastEnd(code));
-        return scalar_if(or_else(part_check(n, m, k, s, bytes, x), unnamed), solver);
-    }
-    objective(n, m, k, s, bytes, objective_at(code), x, solver)
+    let layout = check_part(n, m, k, s, bytes, x)?;
+    refuse_unless(code < 3, Refusal::PastEnd(code))?;
+    Ok(value(layout, bytes, objective_at(code), x, solver))
 }

@@ -6,7 +6,6 @@ ghost use Rattle.reading.specs.Reading.{part_column, part_count, part_of};
 use crate::SolutionList;
 use crate::checks::check_part;
 use numbering::SocWrLayout;
-use refusals::is_refused;
 
 // The first column of a list, and how many it has.
 fn start_of(l: SocWrLayout, part: SolutionList) -> u32
@@ -54,12 +53,9 @@ pub fn part<'a>(
 ) -> &'a [f64]
     ensures { result.now ≡ part_of n m k s bytes.now x.now part }
 {
-    let checked = check_part(n, m, k, s, bytes, x);
-    let check = checked.check;
-    if is_refused(check) {
+    let Ok(l) = check_part(n, m, k, s, bytes, x) else {
         return &x[..0];
-    }
-    let l = checked.layout;
+    };
     let start = start_of(l, part) as usize;
     let end = start + count_of(l, part);
     &x[start..end]

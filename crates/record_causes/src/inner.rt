@@ -3,24 +3,22 @@ ghost use Rattle.std.specs.Prelude.{◌≡◌, ◌+◌, ◌*◌, ◌≤◌, leng
 ghost use Rattle.records.specs.Check.{zero_floats, bus_form, branch_form, gen_form, segment_form, bus_cause, branch_cause, gen_cause, segment_cause};
 
 use records::inner;
-use refusals::{Checked, Refusal, refuse_unless};
+use refusals::{Refusal, refuse_unless};
 
 // Whether the floats of record r from the j-th on are zero bits.
 fn zero_floats(b: &[u8], r: usize, j: usize) -> bool
     requires { (128 * r + 128 ≤ length b.now) × (j ≤ 14) }
     ensures { result ≡ zero_floats b.now r j }
 {
-    let count = 14 - j;
-    let mut i = 0;
-    while i < count {
+    for i in 0..14 - j {
         if inner::bits(b, r, j + i) != 0 {
             return false;
         }
-        i += 1;
     }
     true
 }
 
+#[tactic(auto, unfolding(records::specs::Check::bus_form))]
 fn bus_form(b: &[u8], r: usize) -> bool
     requires { 128 * r + 128 ≤ length b.now }
     ensures { result ≡ bus_form b.now r }
@@ -33,6 +31,7 @@ fn bus_form(b: &[u8], r: usize) -> bool
         & zero_floats(b, r, 6)
 }
 
+#[tactic(auto, unfolding(records::specs::Check::branch_form))]
 fn branch_form(b: &[u8], r: usize) -> bool
     requires { 128 * r + 128 ≤ length b.now }
     ensures { result ≡ branch_form b.now r }
@@ -40,6 +39,7 @@ fn branch_form(b: &[u8], r: usize) -> bool
     (inner::kind(b, r) == 2) & (inner::flags(b, r) < 4) & (inner::count(b, r) == 0)
 }
 
+#[tactic(auto, unfolding(records::specs::Check::gen_form))]
 fn gen_form(b: &[u8], r: usize) -> bool
     requires { 128 * r + 128 ≤ length b.now }
     ensures { result ≡ gen_form b.now r }
@@ -51,6 +51,7 @@ fn gen_form(b: &[u8], r: usize) -> bool
         & zero_floats(b, r, 7)
 }
 
+#[tactic(auto, unfolding(records::specs::Check::segment_form))]
 fn segment_form(b: &[u8], r: usize) -> bool
     requires { 128 * r + 128 ≤ length b.now }
     ensures { result ≡ segment_form b.now r }
@@ -64,41 +65,38 @@ fn segment_form(b: &[u8], r: usize) -> bool
         & zero_floats(b, r, 2)
 }
 
-pub fn bus_cause(b: &[u8], r: usize) -> Checked
+#[tactic(auto, unfolding(records::specs::Check::bus_cause))]
+pub fn bus_cause(b: &[u8], r: usize) -> Result<(), Refusal>
     requires { 128 * r + 128 ≤ length b.now }
     ensures { result ≡ bus_cause b.now r }
 {
     refuse_unless(bus_form(b, r), Refusal::BadRecord(r as u64))
 }
 
-pub fn branch_cause(n: usize, b: &[u8], r: usize) -> Checked
+#[tactic(auto, unfolding(records::specs::Check::branch_cause))]
+pub fn branch_cause(n: usize, b: &[u8], r: usize) -> Result<(), Refusal>
     requires { 128 * r + 128 ≤ length b.now }
     ensures { result ≡ branch_cause n b.now r }
 {
-    if !branch_form(b, r) {
-        return Checked::Refused(Refusal::BadRecord(r as u64));
-    }
+    refuse_unless(branch_form(b, r), Refusal::BadRecord(r as u64))?;
     let from = inner::br_from(b, r) as usize;
     let to = inner::br_to(b, r) as usize;
-    let both = (from < n) & (to < n);
-    if !both {
-        return Checked::Refused(Refusal::NoSuchBus(r as u64));
-    }
+    refuse_unless((from < n) & (to < n), Refusal::NoSuchBus(r as u64))?;
     refuse_unless(from != to, Refusal::EqualEnds(r as u64))
 }
 
-pub fn gen_cause(n: usize, b: &[u8], r: usize) -> Checked
+#[tactic(auto, unfolding(records::specs::Check::gen_cause))]
+pub fn gen_cause(n: usize, b: &[u8], r: usize) -> Result<(), Refusal>
     requires { 128 * r + 128 ≤ length b.now }
     ensures { result ≡ gen_cause n b.now r }
 {
-    if !gen_form(b, r) {
-        return Checked::Refused(Refusal::BadRecord(r as u64));
-    }
+    refuse_unless(gen_form(b, r), Refusal::BadRecord(r as u64))?;
     let bus = inner::gen_bus(b, r) as usize;
     refuse_unless(bus < n, Refusal::NoSuchBus(r as u64))
 }
 
-pub fn segment_cause(b: &[u8], r: usize) -> Checked
+#[tactic(auto, unfolding(records::specs::Check::segment_cause))]
+pub fn segment_cause(b: &[u8], r: usize) -> Result<(), Refusal>
     requires { 128 * r + 128 ≤ length b.now }
     ensures { result ≡ segment_cause b.now r }
 {

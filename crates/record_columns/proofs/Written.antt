@@ -1,11 +1,5 @@
 -- The code's cells are the columns' cells. Assumes nothing.
-use Prim.Native.Nat.{ℕ, ◌+◌, ◌≤◌}
-use mathlib.Core.Path.{◌≡◌, refl, ap, ap₂}
-use mathlib.Core.Bool.{Bool, true, false}
-use mathlib.Core.List.{List, [], ◌∷◌}
-use native.Mathlib.Omega.{arith}
-use lib.ListN.{length}
-use lib.Ieee.{Float}
+use Rattle.std.proofs.Common.{ℕ, ◌+◌, ◌≤◌, ◌≡◌, ap, ap₂, List, [], ◌∷◌, arith, length, Float}
 use Rattle.lists.specs.UpTo.{each, when, sum, bit, count}
 use Rattle.lists.specs.Compressed.{CellOut}
 use Rattle.lists.proofs.Each.{each_ext}
@@ -27,14 +21,11 @@ use Rattle.matrix.specs.Columns.{nonzero_cell, one_cell, slope_cell, cost_cell, 
 use Rattle.branch.specs.declared.Series.{Series}
 use Rattle.branch.specs.declared.Products.{Products}
 use Rattle.cells.specs.Columns.{Columns}
+use Rattle.cells.proofs.Sizes.{when-length}
 use Rattle.cells.proofs.Ends.{columns-turn}
 use Rattle.branch.specs.Series.{series_of}
 use Rattle.branch.specs.Ohm.{branch_with, products_of}
 use Rattle.record_columns.specs.Writers.{slopes, ones, product_cells, cost_turn}
-
-one_or_none : {A : Type 0} (b : Bool) (x : A) → length (when b (x ∷ [])) ≡ bit b
-one_or_none true x = refl
-one_or_none false x = refl
 
 module _ (l : SocWrLayout) (bytes : List ℕ) where
   abbrev G : AcNetwork Float
@@ -57,7 +48,7 @@ module _ (l : SocWrLayout) (bytes : List ℕ) where
 
   pub turn-length : (g : ℕ) → length (cost_turn G g) ≡ bit (G.piecewise g)
   unfolding cost_turn
-  turn-length g = one_or_none (G.piecewise g) (cost_cells G g)
+  turn-length g = when-length (G.piecewise g) (cost_cells G g)
 
   pub turn-le : (g : ℕ) → length (cost_turn G g) ≤ 1
   turn-le g = omega (arith, turn-length g, bit_le (G.piecewise g))

@@ -1,24 +1,15 @@
 -- The record check's definitions, one step more at a time, as its loops go, and kind by kind. Assumes nothing.
-use Prim.Native.Nat.{ℕ, zero, suc, ◌+◌, ◌-◌, ◌≤◌, ◌<◌}
-use mathlib.Core.Path.{◌≡◌, refl, sym, ◌∙◌, ap, subst}
-use mathlib.Core.Bool.{Bool, true, false, ◌&&◌}
-use mathlib.Core.List.{List}
-use native.Mathlib.Nat.{add-zero, zero-add, add-suc, add_assoc}
-use native.Mathlib.Omega.{arith}
-use lib.Dec.{T, eqb}
-use borrow.Author.Tests.{ne_eqb, leb-true, lt-ltb, le-ltb}
+use Rattle.std.proofs.Common.{ℕ, zero, suc, ◌+◌, ◌-◌, ◌≤◌, ◌<◌, ◌≡◌, refl, sym, ◌∙◌, true, false, ◌&&◌, List, add-zero, zero-add, add-suc, add_assoc, arith, eqb, ne_eqb, leb-true, lt-ltb, le-ltb, Result, Ok, Err}
 use Rattle.lists.specs.UpTo.{up_to, all}
 use Rattle.lists.proofs.UpTo.{up_to-more, up_to-found, up_to-same}
-use Rattle.refusals.specs.Refusals.{◌or_else◌, is_refused, refuse_unless}
-use Rattle.refusals.specs.declared.Checked.{Checked}
-use Rattle.refusals.specs.declared.Checked.TheVariants.{Accepted, Refused}
-use Rattle.refusals.specs.declared.Refusal.TheVariants.{BadRecord}
-use Rattle.refusals.proofs.Laws.{accepted-first, accepted-by, refused-by, or_else_refused, or_else_accepted, test-held}
+use Rattle.refusals.specs.Refusals.{Checked, passed, ◌or_else◌}
+use Rattle.refusals.specs.declared.Refusal.{Refusal}
+use Rattle.refusals.proofs.Laws.{accepted-first, or_else_refused, or_else_accepted, or_else_assoc, test-held}
 use Rattle.records.specs.Fields.{bits_of, count_of}
-use Rattle.records.specs.Check.{choose, zero_floats, count_cause, bus_cause, branch_cause, gen_cause, segment_cause, record_cause, record_causes, first_cause, count_sum, sum_cause}
+use Rattle.records.specs.Check.{choose, zero_floats, count_cause, bus_cause, branch_cause, gen_cause, segment_cause, record_cause, record_causes, first_cause, count_sum}
 
 module _ (n m k s : ℕ) where
-  pub counts_in_range : count_cause n m k s ≡ Accepted → (n ≤ 4096) × (m ≤ 8192) × (k ≤ 4096) × (s ≤ 65536)
+  pub counts_in_range : count_cause n m k s ≡ passed → (n ≤ 4096) × (m ≤ 8192) × (k ≤ 4096) × (s ≤ 65536)
   unfolding count_cause
   counts_in_range h =
       let a = or_else_accepted _ _ h in
@@ -40,26 +31,16 @@ module _ (b : List ℕ) (r j : ℕ) where
       let z : eqb (bits_of b r (j + i)) 0 ≡ false = ne_eqb _ _ q in
       up_to-found ◌&&◌ true (λ x. eqb (bits_of b r (j + x)) 0) (λ x. refl) i (14 - j) (λ x. rw z) h p ∙ z
 
-accepted-last : (a : Checked) → a or_else Accepted ≡ a
+accepted-last : (a : Checked) → a or_else passed ≡ a
 unfolding ◌or_else◌
-accepted-last Accepted = refl
-accepted-last (Refused cause) = refl
-
-or_else_assoc : (a c d : Checked) → (a or_else c) or_else d ≡ a or_else (c or_else d)
-unfolding ◌or_else◌
-or_else_assoc Accepted c d = refl
-or_else_assoc (Refused cause) c d = refl
+accepted-last (Ok u) = refl
+accepted-last (Err cause) = refl
 
 -- what follows an answer matters where that accepts
-or_else_where : (a c d : Checked) → (a ≡ Accepted → c ≡ d) → a or_else c ≡ a or_else d
+pub or_else_where : {A : Type 0} (a : Checked) (c d : Result A Refusal) → (a ≡ passed → c ≡ d) → a or_else c ≡ a or_else d
 unfolding ◌or_else◌
-or_else_where Accepted c d h = h refl
-or_else_where (Refused cause) c d h = refl
-
--- nothing accepts that refuses
-pub never-accepted : {r : Checked} {refused : Bool} {A : Type 0} → refused ≡ is_refused r → refused ≡ true → r ≡ Accepted → A
-unfolding is_refused
-never-accepted e h p = absurd (subst T (sym h ∙ e ∙ ap is_refused p) tt)
+or_else_where (Ok u) c d h = h refl
+or_else_where (Err cause) c d h = refl
 
 pub sum_more : (b : List ℕ) (g i : ℕ) → count_sum b g (i + 1) ≡ count_sum b g i + count_of b (g + i)
 unfolding count_sum
@@ -71,21 +52,21 @@ sum-none b g = refl
 
 -- the records from the first on, f r being the cause of record r
 module _ (f : ℕ → Checked) (first : ℕ) where
-  pub first-none : first_cause f first 0 ≡ Accepted
+  pub first-none : first_cause f first 0 ≡ passed
   unfolding first_cause up_to
   first-none = refl
 
   -- a turn of a loop that finds the cause r of record first + i: it goes on, or stops there
-  module _ {r : Checked} {refused : Bool} (i : ℕ) (p : first_cause f first i ≡ Accepted) (q : r ≡ f (first + i)) (e : refused ≡ is_refused r) where
-    pub first_more : refused ≡ false → first_cause f first (i + 1) ≡ Accepted
+  module _ {r : Checked} (i : ℕ) (p : first_cause f first i ≡ passed) (q : r ≡ f (first + i)) where
+    pub first_more : r ≡ passed → first_cause f first (i + 1) ≡ passed
     unfolding first_cause
-    first_more h = up_to-more ◌or_else◌ Accepted _ i ∙ rw (p, accepted-by q e h) (accepted-first Accepted)
+    first_more h = up_to-more ◌or_else◌ passed _ i ∙ rw (p, sym q ∙ h) (accepted-first passed)
 
-    pub first_found : (count : ℕ) → i < count → refused ≡ true → r ≡ first_cause f first count
+    pub first_found : {cause : Refusal} (count : ℕ) → i < count → r ≡ Err cause → first_cause f first count ≡ Err cause
     unfolding first_cause
-    first_found count l h =
-        q
-        ∙ sym (up_to-found ◌or_else◌ Accepted (λ j. f (first + j)) accepted-first i count (λ x. or_else_refused _ x (refused-by q e h)) l p)
+    first_found {cause = cause} count l h =
+        let e : f (first + i) ≡ Err cause = sym q ∙ h in
+        up_to-found ◌or_else◌ passed (λ j. f (first + j)) accepted-first i count (λ x. or_else_refused x e ∙ sym e) l p ∙ e
 
   pub first-split : (a c : ℕ) → first_cause f first (a + c) ≡ first_cause f first a or_else first_cause f (first + a) c
   unfolding first_cause up_to
@@ -94,7 +75,7 @@ module _ (f : ℕ → Checked) (first : ℕ) where
 
   pub first-same : (g : ℕ → Checked) (count : ℕ) → ((i : ℕ) → i < count → f (first + i) ≡ g (first + i)) → first_cause f first count ≡ first_cause g first count
   unfolding first_cause
-  first-same g count h = up_to-same ◌or_else◌ Accepted _ _ count h
+  first-same g count h = up_to-same ◌or_else◌ passed _ _ count h
 
 module _ (n m k : ℕ) (b : List ℕ) where
   -- which kind a record is of
@@ -117,7 +98,7 @@ module _ (n m k : ℕ) (b : List ℕ) where
 
   whole : (records : ℕ) → record_causes n m k b records ≡ first_cause (record_cause n m k b) 0 records
   unfolding record_causes first_cause
-  whole records = up_to-same ◌or_else◌ Accepted _ _ records (λ i h. rw zero-add)
+  whole records = up_to-same ◌or_else◌ passed _ _ records (λ i h. rw zero-add)
 
   after : (a c : ℕ) → record_causes n m k b (a + c) ≡ record_causes n m k b a or_else first_cause (record_cause n m k b) a c
   after a c = whole (a + c) ∙ first-split (record_cause n m k b) 0 a c ∙ rw (zero-add a, whole a)
@@ -139,19 +120,13 @@ module _ (n m k : ℕ) (b : List ℕ) where
         first-same f (n + m + k) (segment_cause b) s (λ t h. segment_kind t),
       ) (simp or_else_assoc)
 
-  -- the same with the branches before branch e apart, and then the sum of the counts
-  pub checked-by_kind : (s e : ℕ) → e ≤ m → {buses some others gens segments : Checked} {counts : ℕ}
-      → buses ≡ first_cause (bus_cause b) 0 n
-      → some ≡ first_cause (branch_cause n b) n e
-      → others ≡ first_cause (branch_cause n b) (n + e) (m - e)
-      → gens ≡ first_cause (gen_cause n b) (n + m) k
-      → (gens ≡ Accepted → counts ≡ count_sum b (n + m) k)
-      → segments ≡ first_cause (segment_cause b) (n + m + k) s
-      → buses or_else some or_else others or_else gens or_else segments or_else refuse_unless (eqb counts s) (BadRecord (n + m + k + s))
-      ≡ record_causes n m k b (n + m + k + s) or_else sum_cause n m k s b
-  unfolding sum_cause
-  checked-by_kind s e l {buses} {some} {others} {gens} {segments} {counts} p q r g h t =
+  -- the same with the branches before branch e apart
+  pub apart : (s e : ℕ) → e ≤ m
+      → record_causes n m k b (n + m + k + s)
+      ≡ first_cause (bus_cause b) 0 n
+      or_else first_cause (branch_cause n b) n e or_else first_cause (branch_cause n b) (n + e) (m - e)
+      or_else first_cause (gen_cause n b) (n + m) k or_else first_cause (segment_cause b) (n + m + k) s
+  apart s e l =
       let d : e + (m - e) ≡ m = omega arith in
-      let branches : first_cause (branch_cause n b) n m ≡ some or_else others = rw (q, r) (rw d at (first-split (branch_cause n b) n e (m - e))) in
-      ap (λ (x : Checked). buses or_else some or_else others or_else x) (or_else_where gens _ (segments or_else refuse_unless (eqb (count_sum b (n + m) k) s) (BadRecord (n + m + k + s))) (λ a. rw (h a)))
-      ∙ rw (by_kind s, branches, p, g, t) (simp or_else_assoc)
+      let branches = rw d at (first-split (branch_cause n b) n e (m - e)) in
+      by_kind s ∙ rw branches (simp or_else_assoc)

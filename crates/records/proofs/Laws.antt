@@ -1,5 +1,5 @@
 -- What counts and records that the check accepts have: `Network.Accepted`. Assumes nothing.
-use Rattle.refusals.specs.Refusals.{◌or_else◌}
+use Rattle.refusals.specs.Refusals.{◌or_else◌, passed}
 use Prim.Native.Nat.{ℕ, ◌+◌, ◌<◌}
 use mathlib.Core.Path.{◌≡◌, refl, sym, ◌∙◌, subst}
 use mathlib.Core.Bool.{Bool, true, false, ◌&&◌, ◌||◌, cond}
@@ -8,7 +8,6 @@ use lib.Dec.{T, eqb, ltb}
 use native.Mathlib.Omega.{arith}
 use borrow.Author.Tests.{ltb-true, eqb-true, eqb-false, not-true}
 use Rattle.lists.proofs.UpTo.{up_to-each, up_to-same}
-use Rattle.refusals.specs.declared.Checked.TheVariants.{Accepted}
 use Rattle.refusals.proofs.Laws.{or_else_accepted, test-held}
 use Rattle.records.specs.Fields.{kind_of, flags_of, count_of, second_of, from_of, to_of, gen_bus_of, piecewise_of, segments_of}
 use Rattle.records.specs.Network as Network
@@ -24,11 +23,11 @@ or_left_out true b h e = absurd (subst T e tt)
 or_left_out false b h e = h
 
 module _ (n m k s : ℕ) (b : List ℕ) where
-  each_record : (records : ℕ) → record_causes n m k b records ≡ Accepted → (r : ℕ) → r < records → record_cause n m k b r ≡ Accepted
+  each_record : (records : ℕ) → record_causes n m k b records ≡ passed → (r : ℕ) → r < records → record_cause n m k b r ≡ passed
   unfolding record_causes
-  each_record = up_to-each ◌or_else◌ Accepted (record_cause n m k b) or_else_accepted
+  each_record = up_to-each ◌or_else◌ passed (record_cause n m k b) or_else_accepted
 
-  branch-ends : (r : ℕ) → branch_cause n b r ≡ Accepted → (from_of b r < n) × (to_of b r < n) × (from_of b r ≡ to_of b r → ⊥)
+  branch-ends : (r : ℕ) → branch_cause n b r ≡ passed → (from_of b r < n) × (to_of b r < n) × (from_of b r ≡ to_of b r → ⊥)
   unfolding branch_cause
   branch-ends r p =
       let rest = (or_else_accepted _ _ p).1 in
@@ -36,11 +35,11 @@ module _ (n m k s : ℕ) (b : List ℕ) where
       let unlike = test-held _ _ (or_else_accepted _ _ rest).1 in
       (ltb-true _ _ below.0, ltb-true _ _ below.1, eqb-false _ _ (not-true _ unlike))
 
-  gen_bus-below : (r : ℕ) → gen_cause n b r ≡ Accepted → gen_bus_of b r < n
+  gen_bus-below : (r : ℕ) → gen_cause n b r ≡ passed → gen_bus_of b r < n
   unfolding gen_cause
   gen_bus-below r p = ltb-true _ _ (test-held _ _ (or_else_accepted _ _ p).1)
 
-  gen_plain : (r : ℕ) → gen_cause n b r ≡ Accepted → piecewise_of b r ≡ false → count_of b r ≡ 0
+  gen_plain : (r : ℕ) → gen_cause n b r ≡ passed → piecewise_of b r ≡ false → count_of b r ≡ 0
   unfolding gen_cause gen_form
   gen_plain r p q =
       let form = test-held _ _ (or_else_accepted _ _ p).0 in
@@ -57,7 +56,7 @@ module _ (n m k s : ℕ) (b : List ℕ) where
       go true e = refl
       go false e = sym (h e)
 
-  pub accepted : check_of n m k s b ≡ Accepted → Network.Accepted n m k s b
+  pub accepted : check_of n m k s b ≡ passed → Network.Accepted n m k s b
   unfolding check_of length_cause count_sum sum_cause
   accepted p =
       let counts = or_else_accepted _ _ p in
@@ -65,8 +64,8 @@ module _ (n m k s : ℕ) (b : List ℕ) where
       let records = or_else_accepted _ _ sized.1 in
       let bounds = counts_in_range n m k s counts.0 in
       let each = each_record (n + m + k + s) records.0 in
-      let branch : (e : ℕ) → e < m → branch_cause n b (n + e) ≡ Accepted = λ e h. sym (branch_kind n m k b e h) ∙ each (n + e) (omega arith) in
-      let gen : (g : ℕ) → g < k → gen_cause n b (n + m + g) ≡ Accepted = λ g h. sym (gen_kind n m k b g h) ∙ each (n + m + g) (omega arith) in
+      let branch : (e : ℕ) → e < m → branch_cause n b (n + e) ≡ passed = λ e h. sym (branch_kind n m k b e h) ∙ each (n + e) (omega arith) in
+      let gen : (g : ℕ) → g < k → gen_cause n b (n + m + g) ≡ passed = λ g h. sym (gen_kind n m k b g h) ∙ each (n + m + g) (omega arith) in
       record {
         few-buses = bounds.0;
         few-branches = bounds.1;

@@ -8,10 +8,9 @@ use lib.Dec.{eqb, leb, ltb}
 use lib.ListN.{length}
 use native.Mathlib.Omega.{arith}
 use Rattle.lists.specs.UpTo.{up_to, listed}
-use Rattle.refusals.specs.Refusals.{refuse_unless}
+use Rattle.refusals.specs.Refusals.{refuse_unless, Checked}
 use Rattle.refusals.specs.Order.{sooner, by_order}
 use Rattle.refusals.specs.declared.Refusal.TheVariants.{CountTooLarge, RecordsLength, BadRecord, NoSuchBus, EqualEnds}
-use Rattle.refusals.specs.declared.Checked.{Checked}
 use Rattle.refusals.proofs.Order.{InOrder, in_order, alone, next, whole, wider, by_turn, no_cause}
 use Rattle.records.specs.Fields.{from_of, to_of, gen_bus_of}
 use Rattle.records.specs.Check.{count_cause, length_cause, branch_form, gen_form, bus_cause, branch_cause, gen_cause, segment_cause, choose, record_cause, record_causes, sum_cause, check_of}

@@ -1,9 +1,7 @@
 -- What the record check answers (document 01, 'Causes turned away'): "Order: 13, 1, 2; then record by record 3, 4, 5, lastly the sum".
 use Rattle.std.specs.Prelude.{ℕ, ◌+◌, ◌*◌, ◌-◌, Bool, true, false, not, ◌&&◌, ◌||◌, List, length, eqb, leb, ltb}
 use Rattle.lists.specs.UpTo.{up_to, all, sum}
-use Rattle.refusals.specs.Refusals.{◌or_else◌, refuse_unless}
-use Rattle.refusals.specs.declared.Checked.{Checked}
-use Rattle.refusals.specs.declared.Checked.TheVariants.{Accepted}
+use Rattle.refusals.specs.Refusals.{◌or_else◌, refuse_unless, Checked, passed}
 use Rattle.refusals.specs.declared.Refusal.TheVariants.{CountTooLarge, RecordsLength, BadRecord, NoSuchBus, EqualEnds}
 use Rattle.records.specs.Fields.{kind_of, flags_of, count_of, id_of, first_of, second_of, bits_of, from_of, to_of, gen_bus_of, piecewise_of}
 
@@ -84,11 +82,11 @@ record_cause n m k b r =
 
 -- the first cause among the count records from the first on, f r being that of record r
 unfoldable pub first_cause : (ℕ → Checked) → ℕ → ℕ → Checked
-first_cause f first count = up_to ◌or_else◌ Accepted (λ i. f (first + i)) count
+first_cause f first count = up_to ◌or_else◌ passed (λ i. f (first + i)) count
 
 -- the first record that has a cause
 unfoldable pub record_causes : ℕ → ℕ → ℕ → List ℕ → ℕ → Checked
-record_causes n m k b records = up_to ◌or_else◌ Accepted (record_cause n m k b) records
+record_causes n m k b records = up_to ◌or_else◌ passed (record_cause n m k b) records
 
 -- 3: "or counts not adding to S", "for the sum n+m+k+S"; the k generators start at record g
 unfoldable pub count_sum : List ℕ → ℕ → ℕ → ℕ

@@ -1,44 +1,53 @@
-// The fields of the records. Each reader asks that record r lies within the slice.
+// Numbers and floats of bytes; the fields of record r, which lies within the slice.
 ghost use Rattle.std.specs.Prelude.{◌≡◌, ◌+◌, ◌*◌, ◌≤◌, ◌<◌, length, get_or};
 ghost use Rattle.std.specs.Float.Ieee.{of_bits};
 ghost use Rattle.std.specs.Float.{binary64};
 ghost use Rattle.records.specs.Bytes.{le16, le32, le64};
 ghost use Rattle.records.specs.Fields.{kind_of, flags_of, count_of, id_of, first_of, second_of, bits_of, float_of, flag_bit, voltage_bound_of, gs_of, bs_of, pd_of, qd_of, vm_min_of, vm_max_of, limited_of, angle_bound_of, from_of, to_of, g_of, b_of, g_fr_of, b_fr_of, g_to_of, b_to_of, tap_of, cos_shift_of, sin_shift_of, angmin_of, angmax_of, tan_angmin_of, tan_angmax_of, rate_a_of, capability_of, piecewise_of, segments_of, gen_bus_of, pmin_of, pmax_of, qmin_of, qmax_of, cq_of, cl_of, cc_of, slope_of, intercept_of};
 
-fn wide(x: u8) -> u16
-    ensures value { result ≡ x }
-    ensures upper_bound { result < 256 }
-{
-    x as u16
-}
+use crate::Record;
+
+pub mod record;
 
 pub fn byte_at(b: &[u8], at: usize) -> u16
     requires { at < length b.now }
     ensures value { result ≡ get_or b.now at 0 }
     ensures upper_bound { result < 256 }
 {
-    wide(b[at])
+    u16::from(b[at])
 }
 
+#[tactic(auto, unfolding(crate::specs::Bytes::le16))]
 pub fn read16(b: &[u8], at: usize) -> u16
     requires { at + 2 ≤ length b.now }
     ensures { result ≡ le16 b.now at }
 {
-    byte_at(b, at) + 256 * byte_at(b, at + 1)
+    u16::from_le_bytes([b[at], b[at + 1]])
 }
 
+#[tactic(auto, unfolding(crate::specs::Bytes::le16, crate::specs::Bytes::le32))]
 pub fn read32(b: &[u8], at: usize) -> u32
     requires { at + 4 ≤ length b.now }
     ensures { result ≡ le32 b.now at }
 {
-    read16(b, at) as u32 + 65536 * (read16(b, at + 2) as u32)
+    u32::from_le_bytes([b[at], b[at + 1], b[at + 2], b[at + 3]])
 }
 
+#[tactic(auto, unfolding(crate::specs::Bytes::le16, crate::specs::Bytes::le32, crate::specs::Bytes::le64))]
 pub fn read64(b: &[u8], at: usize) -> u64
     requires { at + 8 ≤ length b.now }
     ensures { result ≡ le64 b.now at }
 {
-    read32(b, at) as u64 + 4294967296 * (read32(b, at + 4) as u64)
+    u64::from_le_bytes([
+        b[at],
+        b[at + 1],
+        b[at + 2],
+        b[at + 3],
+        b[at + 4],
+        b[at + 5],
+        b[at + 6],
+        b[at + 7],
+    ])
 }
 
 // A float of any eight bytes: a NaN's bits read as the NaN.
@@ -58,14 +67,14 @@ pub fn kind(b: &[u8], r: usize) -> u16
     requires { 128 * r + 128 ≤ length b.now }
     ensures { result ≡ kind_of b.now r }
 {
-    byte_at(b, 128 * r)
+    Record { bytes: b, r }.kind()
 }
 
 pub fn flags(b: &[u8], r: usize) -> u16
     requires { 128 * r + 128 ≤ length b.now }
     ensures { result ≡ flags_of b.now r }
 {
-    byte_at(b, 128 * r + 1)
+    Record { bytes: b, r }.flags()
 }
 
 pub fn count(b: &[u8], r: usize) -> usize
@@ -73,42 +82,42 @@ pub fn count(b: &[u8], r: usize) -> usize
     ensures value { result ≡ count_of b.now r }
     ensures upper_bound { result < 65536 }
 {
-    read16(b, 128 * r + 2) as usize
+    Record { bytes: b, r }.count()
 }
 
 pub fn id(b: &[u8], r: usize) -> u32
     requires { 128 * r + 128 ≤ length b.now }
     ensures { result ≡ id_of b.now r }
 {
-    read32(b, 128 * r + 4)
+    Record { bytes: b, r }.id()
 }
 
 pub fn first(b: &[u8], r: usize) -> u32
     requires { 128 * r + 128 ≤ length b.now }
     ensures { result ≡ first_of b.now r }
 {
-    read32(b, 128 * r + 8)
+    Record { bytes: b, r }.first()
 }
 
 pub fn second(b: &[u8], r: usize) -> u32
     requires { 128 * r + 128 ≤ length b.now }
     ensures { result ≡ second_of b.now r }
 {
-    read32(b, 128 * r + 12)
+    Record { bytes: b, r }.second()
 }
 
 pub fn bits(b: &[u8], r: usize, j: usize) -> u64
     requires { (128 * r + 128 ≤ length b.now) × (j < 14) }
     ensures { result ≡ bits_of b.now r j }
 {
-    read64(b, 128 * r + 16 + 8 * j)
+    Record { bytes: b, r }.bits(j)
 }
 
 pub fn float(b: &[u8], r: usize, j: usize) -> f64
     requires { (128 * r + 128 ≤ length b.now) × (j < 14) }
     ensures { result ≡ float_of b.now r j }
 {
-    float_at(b, 128 * r + 16 + 8 * j)
+    Record { bytes: b, r }.float(j)
 }
 
 // Flag bit j.
@@ -116,7 +125,7 @@ pub fn flag(b: &[u8], r: usize, j: u16) -> bool
     requires { (128 * r + 128 ≤ length b.now) × (j < 8) }
     ensures { result ≡ flag_bit b.now r j }
 {
-    (flags(b, r) >> j) % 2 == 1
+    Record { bytes: b, r }.flag(j)
 }
 
 // A bus.
@@ -124,49 +133,49 @@ pub fn voltage_bound_active(b: &[u8], r: usize) -> bool
     requires { 128 * r + 128 ≤ length b.now }
     ensures { result ≡ voltage_bound_of b.now r }
 {
-    flag(b, r, 0)
+    Record { bytes: b, r }.voltage_bound_active()
 }
 
 pub fn gs(b: &[u8], r: usize) -> f64
     requires { 128 * r + 128 ≤ length b.now }
     ensures { result ≡ gs_of b.now r }
 {
-    float(b, r, 0)
+    Record { bytes: b, r }.gs()
 }
 
 pub fn bs(b: &[u8], r: usize) -> f64
     requires { 128 * r + 128 ≤ length b.now }
     ensures { result ≡ bs_of b.now r }
 {
-    float(b, r, 1)
+    Record { bytes: b, r }.bs()
 }
 
 pub fn pd(b: &[u8], r: usize) -> f64
     requires { 128 * r + 128 ≤ length b.now }
     ensures { result ≡ pd_of b.now r }
 {
-    float(b, r, 2)
+    Record { bytes: b, r }.pd()
 }
 
 pub fn qd(b: &[u8], r: usize) -> f64
     requires { 128 * r + 128 ≤ length b.now }
     ensures { result ≡ qd_of b.now r }
 {
-    float(b, r, 3)
+    Record { bytes: b, r }.qd()
 }
 
 pub fn vm_min(b: &[u8], r: usize) -> f64
     requires { 128 * r + 128 ≤ length b.now }
     ensures { result ≡ vm_min_of b.now r }
 {
-    float(b, r, 4)
+    Record { bytes: b, r }.vm_min()
 }
 
 pub fn vm_max(b: &[u8], r: usize) -> f64
     requires { 128 * r + 128 ≤ length b.now }
     ensures { result ≡ vm_max_of b.now r }
 {
-    float(b, r, 5)
+    Record { bytes: b, r }.vm_max()
 }
 
 // A branch.
@@ -174,126 +183,126 @@ pub fn thermal_limit_active(b: &[u8], r: usize) -> bool
     requires { 128 * r + 128 ≤ length b.now }
     ensures { result ≡ limited_of b.now r }
 {
-    flag(b, r, 0)
+    Record { bytes: b, r }.thermal_limit_active()
 }
 
 pub fn angle_bound_active(b: &[u8], r: usize) -> bool
     requires { 128 * r + 128 ≤ length b.now }
     ensures { result ≡ angle_bound_of b.now r }
 {
-    flag(b, r, 1)
+    Record { bytes: b, r }.angle_bound_active()
 }
 
 pub fn br_from(b: &[u8], r: usize) -> u32
     requires { 128 * r + 128 ≤ length b.now }
     ensures { result ≡ from_of b.now r }
 {
-    first(b, r)
+    Record { bytes: b, r }.br_from()
 }
 
 pub fn br_to(b: &[u8], r: usize) -> u32
     requires { 128 * r + 128 ≤ length b.now }
     ensures { result ≡ to_of b.now r }
 {
-    second(b, r)
+    Record { bytes: b, r }.br_to()
 }
 
 pub fn g(b: &[u8], r: usize) -> f64
     requires { 128 * r + 128 ≤ length b.now }
     ensures { result ≡ g_of b.now r }
 {
-    float(b, r, 0)
+    Record { bytes: b, r }.g()
 }
 
 pub fn b(b: &[u8], r: usize) -> f64
     requires { 128 * r + 128 ≤ length b.now }
     ensures { result ≡ b_of b.now r }
 {
-    float(b, r, 1)
+    Record { bytes: b, r }.b()
 }
 
 pub fn g_fr(b: &[u8], r: usize) -> f64
     requires { 128 * r + 128 ≤ length b.now }
     ensures { result ≡ g_fr_of b.now r }
 {
-    float(b, r, 2)
+    Record { bytes: b, r }.g_fr()
 }
 
 pub fn b_fr(b: &[u8], r: usize) -> f64
     requires { 128 * r + 128 ≤ length b.now }
     ensures { result ≡ b_fr_of b.now r }
 {
-    float(b, r, 3)
+    Record { bytes: b, r }.b_fr()
 }
 
 pub fn g_to(b: &[u8], r: usize) -> f64
     requires { 128 * r + 128 ≤ length b.now }
     ensures { result ≡ g_to_of b.now r }
 {
-    float(b, r, 4)
+    Record { bytes: b, r }.g_to()
 }
 
 pub fn b_to(b: &[u8], r: usize) -> f64
     requires { 128 * r + 128 ≤ length b.now }
     ensures { result ≡ b_to_of b.now r }
 {
-    float(b, r, 5)
+    Record { bytes: b, r }.b_to()
 }
 
 pub fn tap(b: &[u8], r: usize) -> f64
     requires { 128 * r + 128 ≤ length b.now }
     ensures { result ≡ tap_of b.now r }
 {
-    float(b, r, 6)
+    Record { bytes: b, r }.tap()
 }
 
 pub fn cos_shift(b: &[u8], r: usize) -> f64
     requires { 128 * r + 128 ≤ length b.now }
     ensures { result ≡ cos_shift_of b.now r }
 {
-    float(b, r, 7)
+    Record { bytes: b, r }.cos_shift()
 }
 
 pub fn sin_shift(b: &[u8], r: usize) -> f64
     requires { 128 * r + 128 ≤ length b.now }
     ensures { result ≡ sin_shift_of b.now r }
 {
-    float(b, r, 8)
+    Record { bytes: b, r }.sin_shift()
 }
 
 pub fn angmin(b: &[u8], r: usize) -> f64
     requires { 128 * r + 128 ≤ length b.now }
     ensures { result ≡ angmin_of b.now r }
 {
-    float(b, r, 9)
+    Record { bytes: b, r }.angmin()
 }
 
 pub fn angmax(b: &[u8], r: usize) -> f64
     requires { 128 * r + 128 ≤ length b.now }
     ensures { result ≡ angmax_of b.now r }
 {
-    float(b, r, 10)
+    Record { bytes: b, r }.angmax()
 }
 
 pub fn tan_angmin(b: &[u8], r: usize) -> f64
     requires { 128 * r + 128 ≤ length b.now }
     ensures { result ≡ tan_angmin_of b.now r }
 {
-    float(b, r, 11)
+    Record { bytes: b, r }.tan_angmin()
 }
 
 pub fn tan_angmax(b: &[u8], r: usize) -> f64
     requires { 128 * r + 128 ≤ length b.now }
     ensures { result ≡ tan_angmax_of b.now r }
 {
-    float(b, r, 12)
+    Record { bytes: b, r }.tan_angmax()
 }
 
 pub fn rate_a(b: &[u8], r: usize) -> f64
     requires { 128 * r + 128 ≤ length b.now }
     ensures { result ≡ rate_a_of b.now r }
 {
-    float(b, r, 13)
+    Record { bytes: b, r }.rate_a()
 }
 
 // A generator.
@@ -301,70 +310,70 @@ pub fn generator_capability_active(b: &[u8], r: usize) -> bool
     requires { 128 * r + 128 ≤ length b.now }
     ensures { result ≡ capability_of b.now r }
 {
-    flag(b, r, 0)
+    Record { bytes: b, r }.generator_capability_active()
 }
 
 pub fn piecewise(b: &[u8], r: usize) -> bool
     requires { 128 * r + 128 ≤ length b.now }
     ensures { result ≡ piecewise_of b.now r }
 {
-    flag(b, r, 1)
+    Record { bytes: b, r }.piecewise()
 }
 
 pub fn gen_bus(b: &[u8], r: usize) -> u32
     requires { 128 * r + 128 ≤ length b.now }
     ensures { result ≡ gen_bus_of b.now r }
 {
-    first(b, r)
+    Record { bytes: b, r }.gen_bus()
 }
 
 pub fn pmin(b: &[u8], r: usize) -> f64
     requires { 128 * r + 128 ≤ length b.now }
     ensures { result ≡ pmin_of b.now r }
 {
-    float(b, r, 0)
+    Record { bytes: b, r }.pmin()
 }
 
 pub fn pmax(b: &[u8], r: usize) -> f64
     requires { 128 * r + 128 ≤ length b.now }
     ensures { result ≡ pmax_of b.now r }
 {
-    float(b, r, 1)
+    Record { bytes: b, r }.pmax()
 }
 
 pub fn qmin(b: &[u8], r: usize) -> f64
     requires { 128 * r + 128 ≤ length b.now }
     ensures { result ≡ qmin_of b.now r }
 {
-    float(b, r, 2)
+    Record { bytes: b, r }.qmin()
 }
 
 pub fn qmax(b: &[u8], r: usize) -> f64
     requires { 128 * r + 128 ≤ length b.now }
     ensures { result ≡ qmax_of b.now r }
 {
-    float(b, r, 3)
+    Record { bytes: b, r }.qmax()
 }
 
 pub fn cq(b: &[u8], r: usize) -> f64
     requires { 128 * r + 128 ≤ length b.now }
     ensures { result ≡ cq_of b.now r }
 {
-    float(b, r, 4)
+    Record { bytes: b, r }.cq()
 }
 
 pub fn cl(b: &[u8], r: usize) -> f64
     requires { 128 * r + 128 ≤ length b.now }
     ensures { result ≡ cl_of b.now r }
 {
-    float(b, r, 5)
+    Record { bytes: b, r }.cl()
 }
 
 pub fn cc(b: &[u8], r: usize) -> f64
     requires { 128 * r + 128 ≤ length b.now }
     ensures { result ≡ cc_of b.now r }
 {
-    float(b, r, 6)
+    Record { bytes: b, r }.cc()
 }
 
 // A segment.
@@ -372,14 +381,14 @@ pub fn slope(b: &[u8], r: usize) -> f64
     requires { 128 * r + 128 ≤ length b.now }
     ensures { result ≡ slope_of b.now r }
 {
-    float(b, r, 0)
+    Record { bytes: b, r }.slope()
 }
 
 pub fn intercept(b: &[u8], r: usize) -> f64
     requires { 128 * r + 128 ≤ length b.now }
     ensures { result ≡ intercept_of b.now r }
 {
-    float(b, r, 1)
+    Record { bytes: b, r }.intercept()
 }
 
 // The segments of a generator's cost.
@@ -388,8 +397,5 @@ pub fn segments(b: &[u8], r: usize) -> usize
     ensures value { result ≡ segments_of b.now r }
     ensures upper_bound { result < 65536 }
 {
-    if piecewise(b, r) {
-        return count(b, r);
-    }
-    0
+    Record { bytes: b, r }.segments()
 }

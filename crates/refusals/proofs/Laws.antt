@@ -1,124 +1,137 @@
 -- Laws of checks and of what they leave in a lent list. Assumes nothing.
-use Prim.Native.Nat.{ℕ, ◌≤◌}
-use mathlib.Core.Path.{◌≡◌, refl, sym, ◌∙◌, subst}
-use mathlib.Core.Bool.{Bool, true, false}
-use mathlib.Core.List.{List, ◌++◌}
-use lib.Dec.{T}
-use borrow.Author.Tests.{leb-true}
-use lib.ListN.{length, drop}
+use Rattle.std.proofs.Common.{◌≡◌, refl, sym, ◌∙◌, ap, subst, ℕ, ◌≤◌, Bool, true, false, T, is_err, IsErrAnd, List, ◌++◌, length, drop, Result, Ok, Err, leb-true}
+use Rattle.std.proofs.lemmas.Result.{err_from_is_err_and}
 use Rattle.lists.specs.UpTo.{overlay}
-use Rattle.refusals.specs.Refusals.{◌or_else◌, is_refused, refuse_unless, room_for, written_if, left_in}
+use Rattle.refusals.specs.Refusals.{Checked, passed, ◌or_else◌, refuse_unless, room_for, answer_if, left_in}
 use Rattle.refusals.specs.declared.Refusal.{Refusal}
-use Rattle.refusals.specs.declared.Checked.{Checked}
-use Rattle.refusals.specs.declared.Checked.TheVariants.{Accepted, Refused}
-use Rattle.refusals.specs.declared.Written.{Written}
-use Rattle.refusals.specs.declared.Written.TheVariants as Written
 
-pub or_else_refused : (a c : Checked) → is_refused a ≡ true → a or_else c ≡ a
-unfolding ◌or_else◌ is_refused
-or_else_refused Accepted c h = absurd (subst T (sym h) tt)
-or_else_refused (Refused cause) c h = refl
+pub never : {A : Type 0} {x : A} {cause : Refusal} {B : Type 0} → Ok x ≡ Err cause → B
+never {A} e = absurd (subst T (sym (ap (is_err {T = A} {E = Refusal}) e)) tt)
 
-pub passed : (a : Checked) → is_refused a ≡ false → a ≡ Accepted
-unfolding is_refused
-passed Accepted h = refl
-passed (Refused cause) h = absurd (subst T h tt)
+-- a check that refuses ends the whole, one that passes leaves the rest
+pub or_else_refused : {A : Type 0} {a : Checked} {cause : Refusal} (c : Result A Refusal) → a ≡ Err cause → a or_else c ≡ Err cause
+unfolding ◌or_else◌
+or_else_refused c h = rw h
 
-pub accepted-first : (c : Checked) → Accepted or_else c ≡ c
+pub or_else_passed : {A : Type 0} {a : Checked} (c : Result A Refusal) → a ≡ passed → a or_else c ≡ c
+unfolding ◌or_else◌
+or_else_passed c h = rw h
+
+pub accepted-first : {A : Type 0} (c : Result A Refusal) → passed or_else c ≡ c
 unfolding ◌or_else◌
 accepted-first c = refl
 
-pub or_else_accepted : (a c : Checked) → a or_else c ≡ Accepted → (a ≡ Accepted) × (c ≡ Accepted)
-unfolding ◌or_else◌ is_refused
-or_else_accepted Accepted c h = (refl, h)
-or_else_accepted (Refused cause) c h = absurd (subst (λ (x : Checked). T (is_refused x)) h tt)
+pub or_else_accepted : {A : Type 0} {x : A} (a : Checked) (c : Result A Refusal) → a or_else c ≡ Ok x → (a ≡ passed) × (c ≡ Ok x)
+unfolding ◌or_else◌
+or_else_accepted (Ok u) c h = (refl, h)
+or_else_accepted (Err cause) c h = never (sym h)
 
-pub test-held : (t : Bool) (cause : Refusal) → refuse_unless t cause ≡ Accepted → t ≡ true
-unfolding refuse_unless is_refused
+pub or_else_assoc : {A : Type 0} (a b : Checked) (c : Result A Refusal) → (a or_else b) or_else c ≡ a or_else b or_else c
+unfolding ◌or_else◌
+or_else_assoc (Ok u) b c = refl
+or_else_assoc (Err cause) b c = refl
+
+-- an answer r that is a's: the whole ends with it, or goes on with what is left
+pub stopped : {A : Type 0} {r a : Checked} {cause : Refusal} (x : Result A Refusal) → r ≡ a → r ≡ Err cause → Err cause ≡ a or_else x
+stopped x e h = sym (or_else_refused x (sym e ∙ h))
+
+pub went_on : {A : Type 0} {r a : Checked} {y x : Result A Refusal} → r ≡ a → r ≡ passed → y ≡ x → y ≡ a or_else x
+went_on {x = x} e h p = p ∙ sym (or_else_passed x (sym e ∙ h))
+
+-- ---- a test, and the rest of a check
+pub test-held : (t : Bool) (cause : Refusal) → refuse_unless t cause ≡ passed → t ≡ true
+unfolding refuse_unless
 test-held true cause h = refl
-test-held false cause h = absurd (subst (λ (x : Checked). T (is_refused x)) h tt)
+test-held false cause h = never (sym h)
 
-pub held : (t : Bool) (cause : Refusal) → t ≡ true → refuse_unless t cause ≡ Accepted
+pub held : (t : Bool) (cause : Refusal) → t ≡ true → refuse_unless t cause ≡ passed
 unfolding refuse_unless
 held t cause h = rw h
 
-pub has_room : (need there : ℕ) → room_for need there ≡ Accepted → need ≤ there
-has_room need there h = leb-true need there (test-held _ _ h)
-
-pub failed : (t : Bool) (cause : Refusal) → t ≡ false → refuse_unless t cause ≡ Refused cause
+pub failed : (t : Bool) (cause : Refusal) → t ≡ false → refuse_unless t cause ≡ Err cause
 unfolding refuse_unless
 failed t cause h = rw h
 
--- an answer r that is a's: the whole check ends with it, or goes on with what is left
-pub stopped : {r a : Checked} (x : Checked) → r ≡ a → is_refused r ≡ true → r ≡ a or_else x
-stopped x e h = rw (← e) (sym (or_else_refused _ x h))
+pub has_room : (need there : ℕ) → room_for need there ≡ passed → need ≤ there
+has_room need there h = leb-true need there (test-held _ _ h)
 
-pub went_on : {r a y x : Checked} → r ≡ a → is_refused r ≡ false → y ≡ x → y ≡ a or_else x
-went_on {r} {a} {y} {x} e h p =
-    let q : a ≡ Accepted = sym e ∙ passed r h in
-    rw (q, accepted-first) p
+pub first-failed : {A : Type 0} {t : Bool} {cause : Refusal} {r : Result A Refusal} (c : Result A Refusal) → t ≡ false → r ≡ Err cause → r ≡ refuse_unless t cause or_else c
+first-failed {t = t} {cause = cause} c h e = e ∙ sym (or_else_refused c (failed t cause h))
 
--- what is left in a lent list, and what is answered, where the check passed and where it refused
-pub left-written : {A : Type 0} {c : Checked} (xs ys : List A) → c ≡ Accepted → left_in c xs ys ≡ overlay xs ys
-unfolding left_in
-left-written xs ys e = rw e
+pub first-held : {A : Type 0} {t : Bool} (cause : Refusal) {r c : Result A Refusal} → t ≡ true → r ≡ c → r ≡ refuse_unless t cause or_else c
+first-held {t = t} cause {c = c} h e = e ∙ sym (or_else_passed c (held t cause h))
 
-pub left_alone : {A : Type 0} {c : Checked} {cause : Refusal} (xs ys : List A) → c ≡ Refused cause → left_in c xs ys ≡ ys
-unfolding left_in
-left_alone xs ys e = rw e
+-- ---- what is left in a lent list, and what is answered, where the check passed and where it refused
+module _ {A : Type 0} {c : Checked} where
+  pub left-written : (xs ys : List A) → c ≡ passed → left_in c xs ys ≡ overlay xs ys
+  unfolding left_in
+  left-written xs ys e = rw e
 
-pub left-refused : {A : Type 0} (c : Checked) (xs ys : List A) → is_refused c ≡ true → left_in c xs ys ≡ ys
-unfolding left_in is_refused
-left-refused Accepted xs ys h = absurd (subst T (sym h) tt)
-left-refused (Refused cause) xs ys h = refl
+  pub left_alone : {cause : Refusal} (xs ys : List A) → c ≡ Err cause → left_in c xs ys ≡ ys
+  unfolding left_in
+  left_alone xs ys e = rw e
 
--- where the check passed, the front that was lent on is the list itself
-pub left-front : {A : Type 0} {c : Checked} {xs part : List A} (n : ℕ) (ys : List A) → c ≡ Accepted → part ≡ xs → length part ≡ n → part ++ drop n ys ≡ left_in c xs ys
-unfolding left_in overlay
-left-front n ys e p l = rw (e, ← p, l)
+  -- where the check passed, the front that was lent on is the list itself, and so is a copy
+  pub left-front : {xs part : List A} (n : ℕ) (ys : List A) → c ≡ passed → part ≡ xs → length part ≡ n → part ++ drop n ys ≡ left_in c xs ys
+  unfolding left_in overlay
+  left-front n ys e p l = rw (e, ← p, l)
 
-pub count-written : {c : Checked} (n : ℕ) → c ≡ Accepted → written_if c n ≡ Written.Count n
-unfolding written_if
-count-written n e = rw e
+  pub left_copied : (zs xs ys : List A) {d : List A} → c ≡ passed → d ≡ overlay zs ys → zs ≡ xs → d ≡ left_in c xs ys
+  left_copied zs xs ys h p q = p ∙ rw q (sym (left-written xs ys h))
 
-pub count-refused : {c : Checked} {cause : Refusal} (n : ℕ) → c ≡ Refused cause → written_if c n ≡ Written.Refused cause
-unfolding written_if
-count-refused n e = rw e
+pub answer-held : {A : Type 0} {c : Checked} (a : A) → c ≡ passed → answer_if c a ≡ Ok a
+answer-held a e = or_else_passed (Ok a) e
 
--- a check r that computes c, and does not refuse
-pub accepted-by : {r c : Checked} {b : Bool} → r ≡ c → b ≡ is_refused r → b ≡ false → c ≡ Accepted
-accepted-by {r} e p h = sym e ∙ passed r (sym p ∙ h)
+pub answer-refused : {A : Type 0} {c : Checked} {cause : Refusal} (a : A) → c ≡ Err cause → answer_if c a ≡ Err cause
+answer-refused a e = or_else_refused (Ok a) e
 
-pub refused-by : {r c : Checked} {b : Bool} → r ≡ c → b ≡ is_refused r → b ≡ true → is_refused c ≡ true
-refused-by e p h = rw (← e, ← p) h
+-- ---- the exits of a `?`: what it returns is the cause itself
+pub leaves : {A : Type 0} {out : Result A Refusal} {cause : Refusal} → IsErrAnd out (λ e. e ≡ cause) → out ≡ Err cause
+leaves {out = out} h =
+    let p = err_from_is_err_and out h in
+    p.1 ∙ ap Err p.2
 
--- a test that failed, or one that held and the rest of the check
-pub first-failed : {t : Bool} {cause : Refusal} {r : Checked} (c : Checked) → t ≡ false → r ≡ Refused cause → r ≡ refuse_unless t cause or_else c
-unfolding refuse_unless ◌or_else◌
-first-failed c h e = rw h e
+-- a check r that is a's ends the whole
+pub ends : {A : Type 0} {out : Result A Refusal} {cause : Refusal} {r a : Checked} (x : Result A Refusal) → IsErrAnd out (λ e. e ≡ cause) → r ≡ Err cause → r ≡ a → out ≡ a or_else x
+ends x h e p = leaves h ∙ stopped x p e
 
-pub first-held : {t : Bool} (cause : Refusal) {r c : Checked} → t ≡ true → r ≡ c → r ≡ refuse_unless t cause or_else c
-unfolding refuse_unless ◌or_else◌
-first-held cause h e = rw h e
+-- ---- an answer r that holds a value v of its own where the check a passes
+module _ {A : Type 0} (a : Checked) (v : A) {r : Result A Refusal} (e : r ≡ answer_if a v) where
+  pub held_by : {w : A} → r ≡ Ok w → (a ≡ passed) × (v ≡ w)
+  held_by h =
+      let p = or_else_accepted a (Ok v) (sym e ∙ h) in
+      (p.0, cc p.1)
 
--- the count says nothing on a refusal
-pub count_any : (c : Checked) (m n : ℕ) → is_refused c ≡ true → written_if c m ≡ written_if c n
-unfolding written_if is_refused
-count_any Accepted m n h = absurd (subst T (sym h) tt)
-count_any (Refused cause) m n h = refl
+  pub refused_by : {cause : Refusal} → r ≡ Err cause → a ≡ Err cause
+  unfolding ◌or_else◌
+  refused_by {cause} h = go a (sym e ∙ h)
+    where
+      go : (x : Checked) → answer_if x v ≡ Err cause → x ≡ Err cause
+      go (Ok u) p = never p
+      go (Err y) p = let q : y ≡ cause = cc in ap Err q
 
--- an entry that checks, and then writes the front of one lent list
-module _ {r c : Checked} {b : Bool} {A : Type 0} (e : r ≡ c) (p : b ≡ is_refused r) where
-  pub refuses : {w : Written} (m n : ℕ) (xs ys : List A) → b ≡ true → w ≡ written_if r m → (w ≡ written_if c n) × (ys ≡ left_in c xs ys)
-  refuses m n xs ys h q =
-      let f = refused-by e p h in
-      (q ∙ rw e (count_any c m n f), sym (left-refused c xs ys f))
+  pub ends_by : {B : Type 0} {out : Result B Refusal} {cause : Refusal} (x : Result B Refusal) → IsErrAnd out (λ d. d ≡ cause) → r ≡ Err cause → out ≡ a or_else x
+  ends_by x h k = leaves h ∙ sym (or_else_refused x (refused_by k))
 
-  pub writes : {part xs : List A} (m n : ℕ) (ys : List A) → b ≡ false → part ≡ xs → length part ≡ n → m ≡ n → (Written.Count m ≡ written_if c n) × (part ++ drop m ys ≡ left_in c xs ys)
-  writes m n ys h q l k =
-      let f = accepted-by e p h in
-      (rw k (sym (count-written n f)), rw k (left-front n ys f q l))
+  pub went_on_by : {B : Type 0} {w : A} {y x : Result B Refusal} → r ≡ Ok w → (v ≡ w → y ≡ x) → y ≡ a or_else x
+  went_on_by {x = x} h p =
+      let q = held_by h in
+      p q.1 ∙ sym (or_else_passed x q.0)
 
--- where the check passed, a copy of xs is what is left
-pub left_copied : {A : Type 0} {c : Checked} (zs xs ys : List A) {d : List A} → c ≡ Accepted → d ≡ overlay zs ys → zs ≡ xs → d ≡ left_in c xs ys
-left_copied zs xs ys h p q = p ∙ rw q (sym (left-written xs ys h))
+-- ---- an entry that makes the check a, then others d, and then writes: the answer, and what a lent list holds
+module _ {A : Type 0} {r a : Checked} (e : r ≡ a) where
+  pub left_stopped : {cause : Refusal} (xs ys : List A) → r ≡ Err cause → ys ≡ left_in a xs ys
+  left_stopped xs ys h = sym (left_alone xs ys (sym e ∙ h))
+
+  pub left_ended : {cause : Refusal} (d : Checked) (xs ys : List A) → r ≡ Err cause → ys ≡ left_in (a or_else d) xs ys
+  left_ended d xs ys h = sym (left_alone xs ys (or_else_refused d (sym e ∙ h)))
+
+  pub left_went_on : (d : Checked) (xs ys : List A) {zs : List A} → r ≡ passed → zs ≡ left_in d xs ys → zs ≡ left_in (a or_else d) xs ys
+  left_went_on d xs ys h p = p ∙ ap (λ (c : Checked). left_in c xs ys) (sym (or_else_passed d (sym e ∙ h)))
+
+module _ {B : Type 0} {r a : Checked} (d : Checked) (v : B) (e : r ≡ a) where
+  pub answer_ended : {out : Result B Refusal} {cause : Refusal} → IsErrAnd out (λ x. x ≡ cause) → r ≡ Err cause → out ≡ answer_if (a or_else d) v
+  answer_ended h k = ends _ h k e ∙ sym (or_else_assoc _ _ _)
+
+  pub answer_went_on : {out : Result B Refusal} → r ≡ passed → out ≡ answer_if d v → out ≡ answer_if (a or_else d) v
+  answer_went_on h p = went_on e h p ∙ sym (or_else_assoc _ _ _)

@@ -1,18 +1,12 @@
 -- Checks joined by `or_else` go by document 01's order where no cause of one comes after a cause of those that follow it. Assumes nothing.
-use Prim.Native.Nat.{◌≤◌, ◌<◌}
-use mathlib.Core.Path.{◌≡◌, refl, sym, ◌∙◌, ap, subst}
-use mathlib.Core.Bool.{Bool, true, false, ◌&&◌, ◌||◌, cond}
 use mathlib.Core.List.Memᴰ
-use mathlib.Core.List.{List, [], ◌∷◌, ◌++◌, Memᴰ}
-use mathlib.Core.Logic.{◌⊎◌, inl, inr, ⊎_elim}
-use native.Mathlib.Omega.{arith}
-use lib.Dec.{T, eqb, ltb}
-use borrow.Author.Tests.{ltb-true, ltb-false, eqb-true, eqb-false, le-ltb, ne_eqb, eq-eqb}
-use Rattle.refusals.specs.Refusals.{◌or_else◌, is_refused, refuse_unless}
+use mathlib.Core.List.{Memᴰ}
+use Rattle.std.proofs.Common.{◌≡◌, refl, sym, ◌∙◌, subst, ◌≤◌, ◌<◌, Bool, true, false, ◌&&◌, ◌||◌, cond, T, eqb, ltb, List, [], ◌∷◌, ◌++◌, ◌⊎◌, inl, inr, ⊎_elim, arith, Ok, Err, ltb-true, ltb-false, eqb-true, le-ltb, ne_eqb, eq-eqb}
+use Rattle.refusals.specs.Refusals.{Checked, passed, ◌or_else◌, refuse_unless}
 use Rattle.refusals.specs.Order.{rank, turn_of, sooner, earlier, by_order}
 use Rattle.refusals.specs.declared.Refusal.{Refusal}
-use Rattle.refusals.specs.declared.Checked.{Checked}
-use Rattle.refusals.specs.declared.Checked.TheVariants.{Accepted, Refused}
+use Rattle.std.proofs.lemmas.Bool.{eqb-false}
+use Rattle.refusals.proofs.Laws.{never}
 
 -- ---- the order on causes
 -- y does not come before x
@@ -60,47 +54,43 @@ late-late z y x h k = late z x (go (not_sooner z y h) (not_sooner y x k))
     go (inr p) (inl q) = inl (omega (arith, p.0))
     go (inr p) (inr q) = inr (q.0 ∙ p.0, omega (arith, p.1, q.1))
 
-refused-same : {x y : Refusal} → Refused x ≡ Refused y → x ≡ y
+refused-same : {x y : Refusal} → ◌≡◌ {A = Checked} (Err x) (Err y) → x ≡ y
 refused-same e = cc
-
-never : {x : Refusal} {A : Type 0} → Accepted ≡ Refused x → A
-unfolding is_refused
-never e = absurd (subst T (sym (ap is_refused e)) tt)
 
 -- ---- what `by_order` answers: the cause of one of the checks, before which no other's comes; and none where none has a cause
 pub record First (cs : List Checked) (x : Refusal) : Type 0 where
-  pub found : Memᴰ (Refused x) cs
-  pub none_before : (y : Refusal) → Memᴰ (Refused y) cs → sooner y x ≡ false
+  pub found : Memᴰ (Err x) cs
+  pub none_before : (y : Refusal) → Memᴰ (Err y) cs → sooner y x ≡ false
 
-pub none_found : (cs : List Checked) → by_order cs ≡ Accepted → (d : Checked) → Memᴰ d cs → d ≡ Accepted
+pub none_found : (cs : List Checked) → by_order cs ≡ passed → (d : Checked) → Memᴰ d cs → d ≡ passed
 unfolding by_order earlier
 none_found [] e d m = absurd (Memᴰ.not-nil m)
-none_found (Accepted ∷ cs) e d m = ⊎_elim (λ q. q) (λ o. none_found cs e d o) (Memᴰ.cases_cons m)
-none_found (Refused z ∷ cs) e d m = go (by_order cs) e
+none_found (Ok u ∷ cs) e d m = ⊎_elim (λ q. q) (λ o. none_found cs e d o) (Memᴰ.cases_cons m)
+none_found (Err z ∷ cs) e d m = go (by_order cs) e
   where
-    step : (p : Bool) (y : Refusal) → cond p (Refused y) (Refused z) ≡ Accepted → d ≡ Accepted
+    step : (p : Bool) (y : Refusal) → cond p (Err y) (Err z) ≡ passed → d ≡ passed
     step true y q = never (sym q)
     step false y q = never (sym q)
 
-    go : (r : Checked) → earlier (Refused z) r ≡ Accepted → d ≡ Accepted
-    go Accepted q = never (sym q)
-    go (Refused y) q = step (sooner y z) y q
+    go : (r : Checked) → earlier (Err z) r ≡ passed → d ≡ passed
+    go (Ok u) q = never (sym q)
+    go (Err y) q = step (sooner y z) y q
 
 -- one check more, that of cause z
 module _ (z : Refusal) (cs : List Checked) (x : Refusal) where
   abbrev Next : Refusal → Type 0
-  Next = First (Refused z ∷ cs)
+  Next = First (Err z ∷ cs)
 
-  first_more : (r : Checked) → by_order cs ≡ r → ((y : Refusal) → by_order cs ≡ Refused y → First cs y) → earlier (Refused z) r ≡ Refused x → Next x
+  first_more : (r : Checked) → by_order cs ≡ r → ((y : Refusal) → by_order cs ≡ Err y → First cs y) → earlier (Err z) r ≡ Err x → Next x
   unfolding earlier
-  first_more Accepted b f q =
+  first_more (Ok u) b f q =
       subst Next (refused-same q) (record {
         found = Memᴰ.head refl;
-        none_before = λ w m. ⊎_elim (λ o. rw (refused-same {x = w} {y = z} o) (itself z)) (λ o. never (sym (none_found cs b (Refused w) o))) (Memᴰ.cases_cons m);
+        none_before = λ w m. ⊎_elim (λ o. rw (refused-same {x = w} {y = z} o) (itself z)) (λ o. never (sym (none_found cs b (Err w) o))) (Memᴰ.cases_cons m);
       })
-  first_more (Refused y) b f q = step (sooner y z) refl q
+  first_more (Err y) b f q = step (sooner y z) refl q
     where
-      step : (p : Bool) → sooner y z ≡ p → cond p (Refused y) (Refused z) ≡ Refused x → Next x
+      step : (p : Bool) → sooner y z ≡ p → cond {A = Checked} p (Err y) (Err z) ≡ Err x → Next x
       step true s q =
           subst Next (refused-same q) (record {
             found = Memᴰ.tail (f y b).found;
@@ -112,25 +102,25 @@ module _ (z : Refusal) (cs : List Checked) (x : Refusal) where
             none_before = λ w m. ⊎_elim (λ o. rw (refused-same {x = w} {y = z} o) (itself z)) (λ o. late-late w y z ((f y b).none_before w o) s) (Memᴰ.cases_cons m);
           })
 
-pub first_found : (cs : List Checked) (x : Refusal) → by_order cs ≡ Refused x → First cs x
+pub first_found : (cs : List Checked) (x : Refusal) → by_order cs ≡ Err x → First cs x
 unfolding by_order earlier
 first_found [] x e = never e
-first_found (Accepted ∷ cs) x e =
+first_found (Ok u ∷ cs) x e =
     let f = first_found cs x e in
     record {
       found = Memᴰ.tail f.found;
       none_before = λ y m. ⊎_elim (λ q. never (sym q)) (λ o. f.none_before y o) (Memᴰ.cases_cons m);
     }
-first_found (Refused z ∷ cs) x e = first_more z cs x (by_order cs) refl (λ y b. first_found cs y b) e
+first_found (Err z ∷ cs) x e = first_more z cs x (by_order cs) refl (λ y b. first_found cs y b) e
 
 -- ---- lists of checks, joined
-earlier-none : (c : Checked) → earlier c Accepted ≡ c
+earlier-none : (c : Checked) → earlier c passed ≡ c
 unfolding earlier
-earlier-none Accepted = refl
-earlier-none (Refused x) = refl
+earlier-none (Ok u) = refl
+earlier-none (Err x) = refl
 
 three : (x y z : Refusal) (p q r : Bool) → sooner y x ≡ p → sooner z y ≡ q → sooner z x ≡ r
-    → earlier (Refused x) (cond q (Refused z) (Refused y)) ≡ earlier (cond p (Refused y) (Refused x)) (Refused z)
+    → earlier (Err x) (cond q (Err z) (Err y)) ≡ earlier (cond p (Err y) (Err x)) (Err z)
 unfolding earlier
 three x y z true true true p q r = rw (q, r)
 three x y z true true false p q r = absurd (subst T (sym q ∙ late-late z x y r (soon-late y x p)) tt)
@@ -142,10 +132,10 @@ three x y z false false false p q r = rw (p, r)
 
 earlier_assoc : (a b c : Checked) → earlier a (earlier b c) ≡ earlier (earlier a b) c
 unfolding earlier
-earlier_assoc Accepted b c = refl
-earlier_assoc (Refused x) Accepted c = refl
-earlier_assoc (Refused x) (Refused y) Accepted = sym (earlier-none _)
-earlier_assoc (Refused x) (Refused y) (Refused z) = three x y z _ _ _ refl refl refl
+earlier_assoc (Ok u) b c = refl
+earlier_assoc (Err x) (Ok u) c = refl
+earlier_assoc (Err x) (Err y) (Ok u) = sym (earlier-none _)
+earlier_assoc (Err x) (Err y) (Err z) = three x y z _ _ _ refl refl refl
 
 pub by-order-join : (cs ds : List Checked) → by_order (cs ++ ds) ≡ earlier (by_order cs) (by_order ds)
 unfolding by_order earlier
@@ -157,18 +147,18 @@ unfolding by_order
 by-order-one c = earlier-none c
 
 -- ---- checks in turn
-or_else_earlier : (c d : Checked) → ((x y : Refusal) → c ≡ Refused x → d ≡ Refused y → sooner y x ≡ false) → c or_else d ≡ earlier c d
+or_else_earlier : (c d : Checked) → ((x y : Refusal) → c ≡ Err x → d ≡ Err y → sooner y x ≡ false) → c or_else d ≡ earlier c d
 unfolding ◌or_else◌ earlier
-or_else_earlier Accepted d h = refl
-or_else_earlier (Refused x) Accepted h = refl
-or_else_earlier (Refused x) (Refused y) h = rw (h x y refl refl)
+or_else_earlier (Ok u) d h = refl
+or_else_earlier (Err x) (Ok u) h = refl
+or_else_earlier (Err x) (Err y) h = rw (h x y refl refl)
 
-or_else_cause : (c d : Checked) (y : Refusal) → c or_else d ≡ Refused y → (c ≡ Refused y) ⊎ (d ≡ Refused y)
+or_else_cause : (c d : Checked) (y : Refusal) → c or_else d ≡ Err y → (c ≡ Err y) ⊎ (d ≡ Err y)
 unfolding ◌or_else◌
-or_else_cause Accepted d y e = inr e
-or_else_cause (Refused x) d y e = inl e
+or_else_cause (Ok u) d y e = inr e
+or_else_cause (Err x) d y e = inl e
 
-test_cause : (t : Bool) (x y : Refusal) → refuse_unless t x ≡ Refused y → x ≡ y
+test_cause : (t : Bool) (x y : Refusal) → refuse_unless t x ≡ Err y → x ≡ y
 unfolding refuse_unless
 test_cause true x y e = never e
 test_cause false x y e = refused-same e
@@ -177,14 +167,14 @@ test_cause false x y e = refused-same e
 pub record InOrder (w v : Refusal) (cs : List Checked) (d : Checked) : Type 0 where
   pub equal : d ≡ by_order cs
   pub up : sooner v w ≡ false
-  pub from : (x : Refusal) → d ≡ Refused x → sooner x w ≡ false
-  pub to : (x : Refusal) → d ≡ Refused x → sooner v x ≡ false
+  pub from : (x : Refusal) → d ≡ Err x → sooner x w ≡ false
+  pub to : (x : Refusal) → d ≡ Err x → sooner v x ≡ false
 
 pub in_order : {w v : Refusal} {cs : List Checked} {d : Checked} → InOrder w v cs d → d ≡ by_order cs
 in_order i = i.equal
 
 -- no test, and one
-pub no_cause : (w v : Refusal) → sooner v w ≡ false → InOrder w v [] Accepted
+pub no_cause : (w v : Refusal) → sooner v w ≡ false → InOrder w v [] passed
 unfolding by_order
 no_cause w v h = record { equal = refl; up = h; from = λ x e. never e; to = λ x e. never e }
 

@@ -1,10 +1,9 @@
 -- Document 01, 'Causes turned away': "Order: 13, 1, 2; then record by record 3, 4, 5, lastly the sum; then 6, 11, 9, 7, 8, 12, 10. An entry
 -- makes those checks whose inputs it has, and refuses exactly when one of them finds its cause, by the first in this order."
-use Rattle.std.specs.Prelude.{ℕ, ◌+◌, ◌*◌, Bool, ◌&&◌, ◌||◌, cond, List, [], ◌∷◌, eqb, ltb}
+use Rattle.std.specs.Prelude.{ℕ, ◌+◌, ◌*◌, Bool, ◌&&◌, ◌||◌, cond, List, [], ◌∷◌, eqb, ltb, Ok, Err}
 use Rattle.refusals.specs.declared.Refusal.{Refusal}
 use Rattle.refusals.specs.declared.Refusal.TheVariants.{CountTooLarge, RecordsLength, BadRecord, NoSuchBus, EqualEnds, SolutionLength, PastEnd, PiecewiseCost, NotInSocWr, OutputTooShort, ModeAuto, BadLists, InputTooLong}
-use Rattle.refusals.specs.declared.Checked.{Checked}
-use Rattle.refusals.specs.declared.Checked.TheVariants.{Accepted, Refused}
+use Rattle.refusals.specs.Refusals.{Checked, passed}
 
 -- the place of a cause in this order; 3, 4 and 5 share theirs
 abbrev pub rank : Refusal → ℕ
@@ -44,11 +43,11 @@ sooner x y = ltb (rank x) (rank y) || (eqb (rank x) (rank y) && ltb (turn_of x) 
 
 -- of two answers that whose cause comes first; the first of them where neither comes before the other
 unfoldable pub earlier : Checked → Checked → Checked
-earlier Accepted d = d
-earlier (Refused x) Accepted = Refused x
-earlier (Refused x) (Refused y) = cond (sooner y x) (Refused y) (Refused x)
+earlier (Ok u) d = d
+earlier (Err x) (Ok u) = Err x
+earlier (Err x) (Err y) = cond (sooner y x) (Err y) (Err x)
 
 -- "refuses exactly when one of them finds its cause, by the first in this order": cs are what the checks that an entry makes answer
 unfoldable pub by_order : List Checked → Checked
-by_order [] = Accepted
+by_order [] = passed
 by_order (c ∷ cs) = earlier c (by_order cs)

@@ -1,12 +1,19 @@
 -- Document 01, 'Causes turned away': the number and the returned value of each cause, and how checks are joined.
-use Rattle.std.specs.Prelude.{ℕ, Bool, true, false, List, leb}
+use Rattle.std.specs.Prelude.{ℕ, Bool, true, false, List, leb, Result, Ok, Err}
 use Rattle.lists.specs.UpTo.{overlay}
 use Rattle.refusals.specs.declared.Refusal.{Refusal}
 use Rattle.refusals.specs.declared.Refusal.TheVariants.{CountTooLarge, RecordsLength, BadRecord, NoSuchBus, EqualEnds, SolutionLength, PastEnd, PiecewiseCost, NotInSocWr, OutputTooShort, ModeAuto, BadLists, InputTooLong}
-use Rattle.refusals.specs.declared.Checked.{Checked}
-use Rattle.refusals.specs.declared.Checked.TheVariants.{Accepted, Refused}
-use Rattle.refusals.specs.declared.Written.{Written}
-use Rattle.refusals.specs.declared.Written.TheVariants as Written
+
+-- what a check answers, and what an entry that writes does: the count
+abbrev pub Checked : Type 0
+Checked = Result (Unit {0}) Refusal
+
+-- the answer of a check that finds no cause
+abbrev pub passed : Checked
+passed = Ok (tt {0})
+
+abbrev pub Written : Type 0
+Written = Result ℕ Refusal
 
 -- the table's column 'number'
 abbrev pub cause_number : Refusal → ℕ
@@ -41,51 +48,44 @@ cause_value BadLists = 0
 cause_value InputTooLong = 512
 
 -- ---- checks
--- "refuses .. by the first in this order": the first of two answers that refuses
+-- "refuses .. by the first in this order": a check's cause, or else the answer
 infixr 20 ◌or_else◌
-unfoldable pub ◌or_else◌ : Checked → Checked → Checked
-◌or_else◌ Accepted c = c
-◌or_else◌ (Refused cause) c = Refused cause
-
-unfoldable pub is_refused : Checked → Bool
-is_refused Accepted = false
-is_refused (Refused cause) = true
+unfoldable pub ◌or_else◌ : {A : Type 0} → Checked → Result A Refusal → Result A Refusal
+◌or_else◌ (Ok u) a = a
+◌or_else◌ (Err cause) a = Err cause
 
 -- passed where the test holds, and else refused for that cause
 unfoldable pub refuse_unless : Bool → Refusal → Checked
-refuse_unless true cause = Accepted
-refuse_unless false cause = Refused cause
+refuse_unless true cause = passed
+refuse_unless false cause = Err cause
 
 -- "an output slice too short": the length needed, against the length that is there
 abbrev pub room_for : ℕ → ℕ → Checked
 room_for need there = refuse_unless (leb need there) (OutputTooShort need)
 
--- the number and the value of a check's answer; 0 and 0 where it accepts
-abbrev pub checked_number : Checked → ℕ
-checked_number Accepted = 0
-checked_number (Refused cause) = cause_number cause
+-- ---- answers: this one where the check passed
+abbrev pub answer_if : {A : Type 0} → Checked → A → Result A Refusal
+answer_if c a = c or_else Ok a
 
+-- the number and the value of an answer: 0 and the value of what it holds, or the cause's
+abbrev pub answer_number : {A : Type 0} → Result A Refusal → ℕ
+answer_number (Ok a) = 0
+answer_number (Err cause) = cause_number cause
+
+abbrev pub answer_value : {A : Type 0} → (A → ℕ) → Result A Refusal → ℕ
+answer_value f (Ok a) = f a
+answer_value f (Err cause) = cause_value cause
+
+-- a check's value is 0, a count's the count
 abbrev pub checked_value : Checked → ℕ
-checked_value Accepted = 0
-checked_value (Refused cause) = cause_value cause
-
--- ---- answers of an entry that writes
-unfoldable pub written_if : Checked → ℕ → Written
-written_if Accepted n = Written.Count n
-written_if (Refused cause) n = Written.Refused cause
-
--- the number and the value of such an answer: 0 and the count, or the cause's
-abbrev pub written_number : Written → ℕ
-written_number (Written.Count n) = 0
-written_number (Written.Refused cause) = cause_number cause
+checked_value c = answer_value (λ u. 0) c
 
 abbrev pub written_value : Written → ℕ
-written_value (Written.Count n) = n
-written_value (Written.Refused cause) = cause_value cause
+written_value w = answer_value (λ n. n) w
 
 -- "left as it was", and "output past the length needed is unchanged": what a lent list holds after xs was to be written to its front.
 -- Floats have one nan (lib.Ieee): of a NaN that is left alone this says that it is a NaN still, not which bits it has. Those are run, not
 -- proved (README, 'Read the proofs').
 unfoldable pub left_in : {A : Type 0} → Checked → List A → List A → List A
-left_in Accepted xs ys = overlay xs ys
-left_in (Refused cause) xs ys = ys
+left_in (Ok u) xs ys = overlay xs ys
+left_in (Err cause) xs ys = ys

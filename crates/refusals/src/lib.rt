@@ -1,8 +1,8 @@
-// The causes that turn an input away, and the answers that hold one.
+// The causes that turn an input away. A check answers a Result<(), Refusal>, an entry that writes a Result<u64, Refusal> with the count.
 #![tactic(auto)]
 
 ghost use Rattle.std.specs.Prelude.{◌≡◌};
-ghost use Rattle.refusals.specs.Refusals.{cause_number, cause_value, is_refused, refuse_unless, room_for, ◌or_else◌, written_if};
+ghost use Rattle.refusals.specs.Refusals.{cause_number, cause_value, refuse_unless, room_for};
 
 // A cause of document 01. What a case holds is the value returned with its number.
 #[derive(Clone, Copy)]
@@ -33,20 +33,6 @@ pub enum Refusal {
     BadLists,
     // 13
     InputTooLong,
-}
-
-// What a check answers.
-#[derive(Clone, Copy)]
-pub enum Checked {
-    Accepted,
-    Refused(Refusal),
-}
-
-// What an entry that writes answers: how many elements or entries it wrote, or why it wrote nothing.
-#[derive(Clone, Copy)]
-pub enum Written {
-    Count(u64),
-    Refused(Refusal),
 }
 
 // Document 01's number of a cause.
@@ -91,47 +77,17 @@ pub fn value_of(r: Refusal) -> u64
     }
 }
 
-// The first of two answers that refuses.
-pub fn or_else(a: Checked, b: Checked) -> Checked
-    ensures { result ≡ a or_else b }
-{
-    match a {
-        Checked::Accepted => b,
-        Checked::Refused(_) => a,
-    }
-}
-
-pub fn is_refused(a: Checked) -> bool
-    ensures { result ≡ is_refused a }
-{
-    match a {
-        Checked::Accepted => false,
-        Checked::Refused(_) => true,
-    }
-}
-
-pub fn refuse_unless(ok: bool, cause: Refusal) -> Checked
+// A check's answer: passed where the test holds, and else refused for that cause.
+#[tactic(auto, unfolding(crate::specs::Refusals::refuse_unless))]
+pub fn refuse_unless(ok: bool, cause: Refusal) -> Result<(), Refusal>
     ensures { result ≡ refuse_unless ok cause }
 {
-    if ok {
-        return Checked::Accepted;
-    }
-    Checked::Refused(cause)
+    if ok { Ok(()) } else { Err(cause) }
 }
 
 // Whether an output of the length that is there holds what is needed.
-pub fn room_for(need: usize, there: usize) -> Checked
+pub fn room_for(need: usize, there: usize) -> Result<(), Refusal>
     ensures { result ≡ room_for need there }
 {
     refuse_unless(need <= there, Refusal::OutputTooShort(need as u64))
-}
-
-// The count, where the check passed.
-pub fn written_if(check: Checked, count: u64) -> Written
-    ensures { result ≡ written_if check count }
-{
-    match check {
-        Checked::Accepted => Written::Count(count),
-        Checked::Refused(cause) => Written::Refused(cause),
-    }
 }

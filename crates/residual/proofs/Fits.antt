@@ -1,14 +1,7 @@
 -- What lists that fit and an accepted check say. Assumes nothing.
-use Prim.Native.Nat.{ℕ, ◌*◌, ◌≤◌}
-use mathlib.Core.Path.{◌≡◌}
-use mathlib.Core.Bool.{true, ◌&&◌}
-use mathlib.Core.List.{List}
-use borrow.Author.Tests.{eqb-true}
-use lib.Dec.{eqb}
-use lib.ListN.{length}
-use lib.Ieee.{Float}
+use Rattle.refusals.specs.Refusals.{passed}
+use Rattle.std.proofs.Common.{ℕ, ◌*◌, ◌≤◌, ◌≡◌, true, ◌&&◌, List, eqb-true, eqb, length, Float}
 use Rattle.lists.proofs.Tests.{both}
-use Rattle.refusals.specs.declared.Checked.TheVariants.{Accepted}
 use Rattle.refusals.proofs.Laws.{or_else_accepted, test-held, has_room}
 use Rattle.sparse.specs.Checks.{bounded, entries_fit}
 use Rattle.sparse.proofs.Fits.{Bounded, bounds}
@@ -20,7 +13,8 @@ pub record Resided (dim columns : ℕ) (rows cols : List ℕ) (values rhs answer
   pub rhs-size : length rhs ≡ dim * columns
   pub answer-size : length answer ≡ dim * columns
 
-pub resided : (dim columns : ℕ) (rows cols : List ℕ) (values rhs answer : List Float) → residual_fits dim columns rows cols values rhs answer ≡ true → Resided dim columns rows cols values rhs answer
+pub resided : (dim columns : ℕ) (rows cols : List ℕ) (values rhs answer : List Float)
+    → residual_fits dim columns rows cols values rhs answer ≡ true → Resided dim columns rows cols values rhs answer
 unfolding residual_fits
 resided dim columns rows cols values rhs answer h =
     let a = both (bounded dim columns && entries_fit dim rows cols values && eqb (length rhs) (dim * columns)) _ h in
@@ -34,7 +28,7 @@ pub record Ready (dim columns : ℕ) (rows cols : List ℕ) (values rhs answer :
   pub room : dim * columns ≤ out
 
 pub residual-ready : {dim columns : ℕ} {rows cols : List ℕ} {values rhs answer : List Float} {out : ℕ}
-    → residual_check dim columns rows cols values rhs answer out ≡ Accepted → Ready dim columns rows cols values rhs answer out
+    → residual_check dim columns rows cols values rhs answer out ≡ passed → Ready dim columns rows cols values rhs answer out
 unfolding residual_check
 residual-ready h =
     let a = or_else_accepted _ _ h in

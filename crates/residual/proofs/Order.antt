@@ -1,8 +1,5 @@
 -- The checks of the residual go by document 01's order: 12, then 10. Assumes nothing.
-use Prim.Native.Nat.{ℕ, ◌*◌}
-use mathlib.Core.Path.{◌≡◌, refl}
-use mathlib.Core.List.{List, [], ◌∷◌}
-use lib.Ieee.{Float}
+use Rattle.std.proofs.Common.{ℕ, ◌*◌, ◌≡◌, refl, List, [], ◌∷◌, Float}
 use Rattle.refusals.specs.Refusals.{refuse_unless, room_for}
 use Rattle.refusals.specs.Order.{sooner, by_order}
 use Rattle.refusals.specs.declared.Refusal.TheVariants.{BadLists}

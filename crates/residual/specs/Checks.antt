@@ -1,8 +1,7 @@
 -- Document 01, 'Causes turned away', numbers 12 and 10 in this order.
 use Rattle.std.specs.Prelude.{ℕ, ◌*◌, Bool, ◌&&◌, List, eqb, length, Float}
 use Rattle.refusals.specs.declared.Refusal.TheVariants.{BadLists}
-use Rattle.refusals.specs.declared.Checked.{Checked}
-use Rattle.refusals.specs.Refusals.{◌or_else◌, refuse_unless, room_for}
+use Rattle.refusals.specs.Refusals.{◌or_else◌, refuse_unless, room_for, Checked}
 use Rattle.sparse.specs.Checks.{bounded, entries_fit}
 
 -- not "matrix of wrong length"

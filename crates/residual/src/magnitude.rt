@@ -21,8 +21,8 @@ pub fn max_abs(matrix: &[f64]) -> f64
     ensures { result ≡ max_abs matrix.now }
 {
     let mut m = 0.0;
-    for i in 0..matrix.len() {
-        m = larger_of(m, matrix[i]);
+    for x in matrix {
+        m = larger_of(m, *x);
     }
     m
 }

@@ -1,14 +1,14 @@
 // The residual pass of `solve_refined`: the right-hand side less the matrix times the answer.
 ghost use Rattle.std.specs.Prelude.{◌≡◌, true, ◌*◌, ◌≤◌, ◌<◌, length};
 ghost use Rattle.lists.specs.Entries.{entry};
-ghost use Rattle.refusals.specs.Refusals.{written_if, left_in};
+ghost use Rattle.refusals.specs.Refusals.{answer_if, left_in};
 ghost use Rattle.sparse.specs.Sparse.{entries};
 ghost use Rattle.sparse.specs.Checks.{most_dim, bounded as bounded_of, entries_fit};
 ghost use Rattle.residual.specs.Residual.{subtract_entry, subtract_column, subtract_entries, diagonal, residual as residual_of};
 ghost use Rattle.residual.specs.Checks.{residual_fits, residual_check};
 
-use lists::inner::{copy_f64, wide};
-use refusals::{Checked, Refusal, Written, is_refused, room_for, written_if};
+use lists::inner::copy;
+use refusals::{Refusal, refuse_unless, room_for};
 use sparse::inner::{bounded, entries_fit};
 
 // One entry's part in each column.
@@ -48,9 +48,10 @@ fn subtract_column(
     ensures { out.new ≡ subtract_column dim answer.now (entries rows.now cols.now values.now) c out.old }
 {
     let base = c * dim;
+    // Kept: three lists are read at one place, and a zip of three names a pair in a pair.
     for j in 0..rows.len() {
-        let at = base + wide(rows[j]);
-        let from = base + wide(cols[j]);
+        let at = base + rows[j] as usize;
+        let from = base + cols[j] as usize;
         out[at] = out[at] - values[j] * answer[from];
     }
 }
@@ -96,7 +97,7 @@ fn residual_into(
     requires { (residual_fits dim columns rows.now cols.now values.now rhs.now answer.now ≡ true) × (length out.old ≡ dim * columns) }
     ensures { (out.new ≡ residual_of dim columns (entries rows.now cols.now values.now) eps rhs.now answer.now) × (length out.new ≡ dim * columns) }
 {
-    copy_f64(out, rhs);
+    copy(out, rhs);
     subtract_entries(out, dim, columns, rows, cols, values, answer);
     if eps != 0.0 {
         subtract_diagonal(out, dim, columns, eps, answer);
@@ -132,13 +133,12 @@ fn residual_check(
     rhs: &[f64],
     answer: &[f64],
     room: usize,
-) -> Checked
+) -> Result<(), Refusal>
     ensures { result ≡ residual_check dim columns rows.now cols.now values.now rhs.now answer.now room }
 {
-    if residual_fits(dim, columns, rows, cols, values, rhs, answer) {
-        return room_for(rhs.len(), room);
-    }
-    Checked::Refused(Refusal::BadLists)
+    let fits = residual_fits(dim, columns, rows, cols, values, rhs, answer);
+    refuse_unless(fits, Refusal::BadLists)?;
+    room_for(rhs.len(), room)
 }
 
 // The right-hand side less the matrix times the answer, with eps on the diagonal after the entries
@@ -153,16 +153,13 @@ pub fn residual(
     rhs: &[f64],
     answer: &[f64],
     out: &mut [f64],
-) -> Written
-    ensures value { result ≡ written_if (residual_check dim columns rows.now cols.now values.now rhs.now answer.now (length out.old)) (dim * columns) }
+) -> Result<u64, Refusal>
+    ensures value { result ≡ answer_if (residual_check dim columns rows.now cols.now values.now rhs.now answer.now (length out.old)) (dim * columns) }
     ensures out_after { out.new ≡ left_in (residual_check dim columns rows.now cols.now values.now rhs.now answer.now (length out.old)) (residual_of dim columns (entries rows.now cols.now values.now) eps rhs.now answer.now) out.old }
 {
-    let check = residual_check(dim, columns, rows, cols, values, rhs, answer, out.len());
-    if is_refused(check) {
-        return written_if(check, 0);
-    }
+    residual_check(dim, columns, rows, cols, values, rhs, answer, out.len())?;
     let need = rhs.len();
     let part = &mut out[..need];
     residual_into(part, dim, columns, rows, cols, values, eps, rhs, answer);
-    Written::Count(need as u64)
+    Ok(need as u64)
 }

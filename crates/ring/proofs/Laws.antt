@@ -1,7 +1,6 @@
 -- What follows from the laws of a commutative ring; and the whole numbers in it: k is so many ones. Assumes nothing.
-use Prim.Native.Nat.{ℕ, zero, suc}
-use mathlib.Core.Path.{◌≡◌, refl, sym, ◌∙◌, ap, ap₂}
-use lib.IntN.{ℤ, pos, negsuc, suc_ℤ, pred_ℤ, neg_ℤ, ◌+ℤ◌, ◌*ℤ◌, +ℤ_idr, +ℤ_assoc, +ℤ_comm, +ℤ_invr, +ℤ-suc_ℤ, +ℤ-pred_ℤ, zero-*ℤ, suc_ℤ-*ℤ, pred_ℤ-*ℤ, *ℤ_comm, suc-pred}
+use Rattle.std.proofs.Common.{ℕ, zero, suc, ◌≡◌, refl, sym, ◌∙◌, ap, ap₂, ℤ, pos, negsuc, neg_ℤ, ◌+ℤ◌, ◌*ℤ◌}
+use lib.IntN.{suc_ℤ, pred_ℤ, +ℤ_idr, +ℤ_assoc, +ℤ_comm, +ℤ_invr, +ℤ-suc_ℤ, +ℤ-pred_ℤ, zero-*ℤ, suc_ℤ-*ℤ, pred_ℤ-*ℤ, *ℤ_comm, suc-pred}
 use Rattle.ring.specs.Ops.{Ops, whole}
 use Rattle.ring.specs.Laws.{CommutativeRing}
 use Rattle.ring.proofs.Whole as Whole

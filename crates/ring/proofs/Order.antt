@@ -1,11 +1,8 @@
 -- The order of the whole numbers, through their differences. Assumes nothing.
-use Prim.Native.Nat.{zero, suc, ◌+◌}
-use mathlib.Core.Path.{◌≡◌, refl, sym, ◌∙◌, ap, ap₂, subst}
-use mathlib.Core.Logic.{◌↔◌}
-use lib.Dec.{T, leb-zero, leb-suc-zero, leb-suc-suc}
-use lib.IntN.{ℤ, pos, negsuc, suc_ℤ, pred_ℤ, neg_ℤ, ◌+ℤ◌, ◌-ℤ◌, ◌*ℤ◌, +ℤ_idr, +ℤ_invr, +ℤ-suc_ℤ, +ℤ-pred_ℤ, suc-pred}
-use lib.Signed.{le_z, ◌≤ℤ◌}
-use mathlib.Core.List.{[], ◌∷◌}
+use Rattle.std.proofs.Common.{zero, suc, ◌+◌, ◌≡◌, refl, sym, ◌∙◌, ap, ap₂, subst, ◌↔◌, T, ℤ, pos, negsuc, neg_ℤ, ◌+ℤ◌, ◌-ℤ◌, ◌*ℤ◌, ◌≤ℤ◌, [], ◌∷◌}
+use lib.Dec.{leb-zero, leb-suc-zero, leb-suc-suc}
+use lib.IntN.{suc_ℤ, pred_ℤ, +ℤ_idr, +ℤ_invr, +ℤ-suc_ℤ, +ℤ-pred_ℤ, suc-pred}
+use lib.Signed.{le_z}
 use Rattle.ring.proofs.Whole.{steps}
 use Rattle.ring.specs.Ops.{whole}
 use Rattle.ring.proofs.Laws.{whole-ring}

@@ -1,11 +1,7 @@
 -- Identities of polynomials over any commutative ring, decided by computation: `ring o R a b ρ tt : den o a ρ ≡ den o b ρ`.
 -- A polynomial is multiplied out into monomials, each with its factors in the order of their places; like monomials are gathered, and a - b must leave only zeros. Assumes nothing.
-use Prim.Native.Nat.{ℕ, zero, suc, compare, Ordering}
-use mathlib.Core.Path.{◌≡◌, refl, sym, ◌∙◌, ap, ap₂}
-use mathlib.Core.Bool.{Bool, true, false, cond, ◌&&◌}
-use mathlib.Core.List.{List, [], ◌∷◌}
-use lib.Dec.{T, eqb, eqb→eq}
-use lib.IntN.{ℤ, pos, negsuc, ◌+ℤ◌, ◌*ℤ◌}
+use Rattle.std.proofs.Common.{ℕ, zero, suc, ◌≡◌, refl, sym, ◌∙◌, ap, ap₂, Bool, true, false, cond, ◌&&◌, List, [], ◌∷◌, T, eqb, eqb→eq, ℤ, pos, negsuc, ◌+ℤ◌, ◌*ℤ◌}
+use Prim.Native.Nat.{compare, Ordering}
 use Rattle.ring.specs.Ops.{Ops}
 use Rattle.ring.specs.Laws.{CommutativeRing}
 use Rattle.ring.proofs.Laws.{zero-add, add_left_comm, one-mul, add-mul, zero-mul, mul-zero, neg-mul, mul_left_comm, mul-mul, equal-less, embed, embed-add, embed-mul, embed-one, embed-two}

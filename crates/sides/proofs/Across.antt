@@ -1,12 +1,7 @@
 -- Blocks of one length filled side by side: a turn writes one element of each. A block's elements lie behind those of the blocks before it, so a turn's
 -- store in one block leaves the later ones as they are. Assumes nothing.
-use Prim.Native.Nat.{ℕ, suc, ◌+◌, ◌≤◌, ◌<◌}
-use mathlib.Core.Path.{◌≡◌, refl, ap, ◌∙◌}
-use mathlib.Core.List.{List, [], ◌∷◌, map}
-use native.Mathlib.Omega.{arith}
-use lib.ListN.{length, set}
+use Rattle.std.proofs.Common.{ℕ, suc, ◌+◌, ◌≤◌, ◌<◌, ◌≡◌, refl, ap, ◌∙◌, List, [], ◌∷◌, map, arith, length, set, Float}
 use lib.Seq.{sets, set_comm}
-use lib.Ieee.{Float}
 use Rattle.lists.specs.UpTo.{listed}
 use Rattle.cells.specs.Filled.{Filled}
 use Rattle.cells.proofs.Fills.{filled_none, filled_more, filled-all, kept-length}

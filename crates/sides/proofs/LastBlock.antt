@@ -1,6 +1,5 @@
 -- The blocks that a chain of tests ends with. Assumes nothing.
-use Prim.Native.Nat.{ℕ}
-use mathlib.Core.Path.{◌≡◌, refl}
+use Rattle.std.proofs.Common.{ℕ, ◌≡◌, refl}
 use Rattle.numbering.specs.Numbering.{row_key}
 use Rattle.numbering.specs.declared.RowName.TheVariants.{Pbal, Qbal, Wub, Wlb, Pgub, Pglb, Qgub, Qglb}
 use Rattle.sides.specs.Sides.{BusBlock, pbal, qbal, wub, wlb, GenBlock, pgub, pglb, qgub, qglb}

@@ -1,11 +1,5 @@
 -- How many right sides the limited branches have. Assumes nothing.
-use Prim.Native.Nat.{ℕ, ◌+◌, ◌*◌, ◌<◌, ◌≤◌}
-use mathlib.Core.Path.{◌≡◌, refl, ◌∙◌}
-use mathlib.Core.Bool.{Bool, true, false}
-use mathlib.Core.List.{List}
-use native.Mathlib.Omega.{arith}
-use lib.ListN.{length}
-use lib.Ieee.{Float}
+use Rattle.std.proofs.Common.{ℕ, ◌+◌, ◌*◌, ◌<◌, ◌≤◌, ◌≡◌, refl, ◌∙◌, Bool, true, false, List, arith, length, Float}
 use Rattle.lists.specs.UpTo.{each, when, bit}
 use Rattle.lists.proofs.Each.{each_next}
 use Rattle.lists.proofs.Sums.{each-length, sum_ext, sum-mul}

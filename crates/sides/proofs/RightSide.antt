@@ -1,14 +1,7 @@
 -- b is the runs in which the code writes it. Each run is a window of b, since a row's number is its block's first row and its place behind it; and every
 -- row, by its name, is in its block's run. So no block's neighbours are spoken of. Assumes nothing.
-use Prim.Native.Nat.{ℕ, ◌+◌, ◌*◌, ◌/◌, ◌%◌, ◌≤◌, ◌<◌}
-use mathlib.Core.Path.{◌≡◌, refl, sym, ap, ◌∙◌}
-use mathlib.Core.Bool.{Bool, true, false}
-use mathlib.Core.Logic.{inl}
-use mathlib.Core.List.{List, [], ◌∷◌, ◌++◌}
-use native.Mathlib.Nat.{add_assoc, mod-lt, div-add-mod'}
-use native.Mathlib.Omega.{arith}
-use lib.ListN.{length, get_or}
-use lib.Ieee.{Float, neg}
+use Rattle.std.proofs.Common.{ℕ, ◌+◌, ◌*◌, ◌/◌, ◌%◌, ◌≤◌, ◌<◌, ◌≡◌, refl, sym, ap, ◌∙◌, Bool, true, false, inl, List, [], ◌∷◌, ◌++◌, add_assoc, mod-lt, div-add-mod', arith, length, get_or, Float}
+use lib.Ieee.{neg}
 use Rattle.lists.specs.UpTo.{up_to, each, listed, overlay, when, bit, sum}
 use Rattle.lists.proofs.Each.{each_ext, each-sums}
 use Rattle.lists.proofs.Sums.{sum-mul, sum_room}
@@ -27,7 +20,7 @@ use Rattle.numbering.proofs.EveryPoint.{has-row, row-placed, several}
 use Rattle.numbering.proofs.Laid.{limits_are, laid-ncon}
 use Rattle.rows.specs.Rows.{b, zero64}
 use Rattle.matrix.specs.Lists.{right_side}
-use Rattle.cells.proofs.Fills.{listed-length}
+use Rattle.lists.proofs.Listed.{listed-length}
 use Rattle.cells.specs.Runs.{Run, run, RunsOver}
 use Rattle.sides.specs.Sides.{side_at, block_run, zero_run, rating_sides, ratings_at, ohm_runs, bus_runs, generator_runs, segment_run, jabr_run, thermal_run, branch_runs}
 use Rattle.sides.proofs.Ratings.{ratings_length}
@@ -82,16 +75,20 @@ module _ (l : SocWrLayout) (bytes : List ℕ) (laid : Laid l bytes) where
   wlb = record { has = λ i h. h; at = λ i. omega (arith, layout_row_lem l (Wlb 0), row_number_lem G (Wlb i)); end = omega (arith, layout_row_lem l (Wlb 0), layout-ncon l, laid-ncon l bytes laid) }
 
   pub ohm-pf : Placed l.m OhmPf
-  ohm-pf = record { has = λ e h. h; at = λ e. omega (arith, layout_row_lem l (OhmPf 0), row_number_lem G (OhmPf e)); end = omega (arith, layout_row_lem l (OhmPf 0), layout-ncon l, laid-ncon l bytes laid) }
+  ohm-pf =
+      record { has = λ e h. h; at = λ e. omega (arith, layout_row_lem l (OhmPf 0), row_number_lem G (OhmPf e)); end = omega (arith, layout_row_lem l (OhmPf 0), layout-ncon l, laid-ncon l bytes laid) }
 
   pub ohm-qf : Placed l.m OhmQf
-  ohm-qf = record { has = λ e h. h; at = λ e. omega (arith, layout_row_lem l (OhmQf 0), row_number_lem G (OhmQf e)); end = omega (arith, layout_row_lem l (OhmQf 0), layout-ncon l, laid-ncon l bytes laid) }
+  ohm-qf =
+      record { has = λ e h. h; at = λ e. omega (arith, layout_row_lem l (OhmQf 0), row_number_lem G (OhmQf e)); end = omega (arith, layout_row_lem l (OhmQf 0), layout-ncon l, laid-ncon l bytes laid) }
 
   pub ohm-pt : Placed l.m OhmPt
-  ohm-pt = record { has = λ e h. h; at = λ e. omega (arith, layout_row_lem l (OhmPt 0), row_number_lem G (OhmPt e)); end = omega (arith, layout_row_lem l (OhmPt 0), layout-ncon l, laid-ncon l bytes laid) }
+  ohm-pt =
+      record { has = λ e h. h; at = λ e. omega (arith, layout_row_lem l (OhmPt 0), row_number_lem G (OhmPt e)); end = omega (arith, layout_row_lem l (OhmPt 0), layout-ncon l, laid-ncon l bytes laid) }
 
   pub ohm-qt : Placed l.m OhmQt
-  ohm-qt = record { has = λ e h. h; at = λ e. omega (arith, layout_row_lem l (OhmQt 0), row_number_lem G (OhmQt e)); end = omega (arith, layout_row_lem l (OhmQt 0), layout-ncon l, laid-ncon l bytes laid) }
+  ohm-qt =
+      record { has = λ e h. h; at = λ e. omega (arith, layout_row_lem l (OhmQt 0), row_number_lem G (OhmQt e)); end = omega (arith, layout_row_lem l (OhmQt 0), layout-ncon l, laid-ncon l bytes laid) }
 
   pub pgub : Placed l.k Pgub
   pgub = record { has = λ g h. h; at = λ g. omega (arith, layout_row_lem l (Pgub 0), row_number_lem G (Pgub g)); end = omega (arith, layout_row_lem l (Pgub 0), layout-ncon l, laid-ncon l bytes laid) }
@@ -106,10 +103,12 @@ module _ (l : SocWrLayout) (bytes : List ℕ) (laid : Laid l bytes) where
   qglb = record { has = λ g h. h; at = λ g. omega (arith, layout_row_lem l (Qglb 0), row_number_lem G (Qglb g)); end = omega (arith, layout_row_lem l (Qglb 0), layout-ncon l, laid-ncon l bytes laid) }
 
   pub angub : Placed l.m Angub
-  angub = record { has = λ e h. h; at = λ e. omega (arith, layout_row_lem l (Angub 0), row_number_lem G (Angub e)); end = omega (arith, layout_row_lem l (Angub 0), layout-ncon l, laid-ncon l bytes laid) }
+  angub =
+      record { has = λ e h. h; at = λ e. omega (arith, layout_row_lem l (Angub 0), row_number_lem G (Angub e)); end = omega (arith, layout_row_lem l (Angub 0), layout-ncon l, laid-ncon l bytes laid) }
 
   pub anglb : Placed l.m Anglb
-  anglb = record { has = λ e h. h; at = λ e. omega (arith, layout_row_lem l (Anglb 0), row_number_lem G (Anglb e)); end = omega (arith, layout_row_lem l (Anglb 0), layout-ncon l, laid-ncon l bytes laid) }
+  anglb =
+      record { has = λ e h. h; at = λ e. omega (arith, layout_row_lem l (Anglb 0), row_number_lem G (Anglb e)); end = omega (arith, layout_row_lem l (Anglb 0), layout-ncon l, laid-ncon l bytes laid) }
 
   ohms : {row : ℕ → RowName} {rs : List Run} → Placed l.m row → ((e : ℕ) → b G (row e) ≡ zero64) → Windows side (ncon G) rs → Windows side (ncon G) (zero_run l l.m (row 0) ∷ rs)
   ohms {row} p z rest = zeros (row 0) (λ e h. side-at _ (row e) (p.has e h) (p.at e) ∙ z e) p.end rest

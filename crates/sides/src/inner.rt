@@ -83,39 +83,34 @@ fn fill_buses(out: &mut [f64], l: SocWrLayout, bytes: &[u8])
     requires l_in_bounds { ncon_of l ≤ length out.old }
     ensures { RunsOver (bus_runs l bytes.now) out.old out.new }
 {
-    let n = l.n;
     let pbal = l.pbal_row(0) as usize;
     let qbal = l.qbal_row(0) as usize;
     let wub = l.wub_row(0) as usize;
     let wlb = l.wlb_row(0) as usize;
-    let mut i = 0;
-    while i < n {
+    for i in 0..l.n {
         out[pbal + i] = bus_rhs(l, bytes, blocks::PBAL, i);
         out[qbal + i] = bus_rhs(l, bytes, blocks::QBAL, i);
         out[wub + i] = bus_rhs(l, bytes, blocks::WUB, i);
         out[wlb + i] = bus_rhs(l, bytes, blocks::WLB, i);
-        i += 1;
     }
 }
 
 // pgub, pglb, qgub and qglb.
+// Kept: fill_buses has other rows, another count and other records; joint, each of the four lines would take a parameter.
 fn fill_capabilities(out: &mut [f64], l: SocWrLayout, bytes: &[u8])
     requires laid { Laid l bytes.now }
     requires l_in_bounds { ncon_of l ≤ length out.old }
     ensures { RunsOver (generator_runs l bytes.now) out.old out.new }
 {
-    let k = l.k;
     let pgub = l.pgub_row(0) as usize;
     let pglb = l.pglb_row(0) as usize;
     let qgub = l.qgub_row(0) as usize;
     let qglb = l.qglb_row(0) as usize;
-    let mut g = 0;
-    while g < k {
+    for g in 0..l.k {
         out[pgub + g] = gen_rhs(l, bytes, blocks::PGUB, g);
         out[pglb + g] = gen_rhs(l, bytes, blocks::PGLB, g);
         out[qgub + g] = gen_rhs(l, bytes, blocks::QGUB, g);
         out[qglb + g] = gen_rhs(l, bytes, blocks::QGLB, g);
-        g += 1;
     }
 }
 
@@ -125,10 +120,8 @@ fn fill_intercepts(out: &mut [f64], at: usize, bytes: &[u8], first: usize, count
     requires count_in_bounds_2 { at + count ≤ length out.old }
     ensures { Filled (listed count (λ r. neg (intercept_of bytes.now (first + r)))) out.old at out.new }
 {
-    let mut i = 0;
-    while i < count {
+    for i in 0..count {
         out[at + i] = segment_side(bytes, first + i);
-        i += 1;
     }
 }
 
@@ -163,12 +156,10 @@ fn fill_branches(out: &mut [f64], l: SocWrLayout, bytes: &[u8])
     requires l_in_bounds { ncon_of l ≤ length out.old }
     ensures { RunsOver (branch_runs l bytes.now) out.old out.new }
 {
-    let m = l.m;
     let angub = l.angub_row(0) as usize;
     let anglb = l.anglb_row(0) as usize;
     let mut next = l.thermal_row(0, 0) as usize;
-    let mut e = 0;
-    while e < m {
+    for e in 0..l.m {
         let r = l.n + e;
         let v = angle_rhs(l, bytes, e);
         let on = records::inner::thermal_limit_active(bytes, r);
@@ -176,7 +167,6 @@ fn fill_branches(out: &mut [f64], l: SocWrLayout, bytes: &[u8])
         out[angub + e] = v;
         out[anglb + e] = v;
         next = put_rating(out, next, on, rate_a);
-        e += 1;
     }
 }
 

@@ -1,8 +1,5 @@
 -- 6 goes by document 01's order, x before z. Assumes nothing.
-use Prim.Native.Nat.{ℕ}
-use mathlib.Core.Path.{◌≡◌, refl}
-use mathlib.Core.List.{[], ◌∷◌}
-use lib.Ieee.{Float}
+use Rattle.std.proofs.Common.{ℕ, ◌≡◌, refl, [], ◌∷◌, Float}
 use Rattle.refusals.specs.Order.{sooner, by_order}
 use Rattle.refusals.specs.declared.Refusal.TheVariants.{SolutionLength}
 use Rattle.refusals.proofs.Order.{InOrder, in_order, alone, next}

@@ -1,7 +1,6 @@
 -- 6: "x not nvar long, or z not ncon long", "0 for x, else 1". An x of xs floats, a z of zs.
 use Rattle.std.specs.Prelude.{ℕ, eqb, Float}
-use Rattle.refusals.specs.Refusals.{◌or_else◌, refuse_unless}
-use Rattle.refusals.specs.declared.Checked.{Checked}
+use Rattle.refusals.specs.Refusals.{◌or_else◌, refuse_unless, Checked}
 use Rattle.refusals.specs.declared.Refusal.TheVariants.{SolutionLength}
 use Rattle.records.specs.AcNetwork.{AcNetwork}
 use Rattle.numbering.specs.Numbering.{nvar, ncon}

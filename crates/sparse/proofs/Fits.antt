@@ -1,14 +1,5 @@
 -- What lists that fit say. Assumes nothing.
-use Prim.Native.Nat.{ℕ, zero, suc, ◌+◌, ◌*◌, ◌-◌, ◌≤◌, ◌<◌}
-use mathlib.Core.Path.{◌≡◌}
-use mathlib.Core.Bool.{true, ◌&&◌}
-use mathlib.Core.List.{List}
-use native.Mathlib.Nat.{mul-le-mul}
-use native.Mathlib.Omega.{arith}
-use borrow.Author.Tests.{leb-true, ltb-true, eqb-true}
-use lib.Dec.{leb, ltb, eqb}
-use lib.ListN.{length, get_or}
-use lib.Ieee.{Float}
+use Rattle.std.proofs.Common.{ℕ, zero, suc, ◌+◌, ◌*◌, ◌-◌, ◌≤◌, ◌<◌, ◌≡◌, true, ◌&&◌, List, mul-le-mul, arith, leb-true, ltb-true, eqb-true, leb, ltb, eqb, length, get_or, Float}
 use Rattle.lists.proofs.Tests.{both, all-at}
 use Rattle.sparse.specs.Sparse.{items_of, start_of}
 use Rattle.sparse.specs.Checks.{most_dim, bounded, all_below, entries_fit, starts_fit, selector_fits}

@@ -1,2 +1,4 @@
 pub mod Fits
 pub mod Places
+pub mod Folds
+pub mod Pairs

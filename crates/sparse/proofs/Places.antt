@@ -1,9 +1,5 @@
 -- Places of a matrix that lies by columns, and of a table that lies by items. Assumes nothing.
-use Prim.Native.Nat.{ℕ, ◌+◌, ◌*◌, ◌≤◌, ◌<◌}
-use mathlib.Core.Path.{◌≡◌}
-use native.Mathlib.Nat.{mul-le-mul_right, suc-mul, add-mul, mul_comm}
-use native.Mathlib.Numerals.{add-one}
-use native.Mathlib.Omega.{arith}
+use Rattle.std.proofs.Common.{ℕ, ◌+◌, ◌*◌, ◌≤◌, ◌<◌, ◌≡◌, mul-le-mul_right, suc-mul, add-mul, mul_comm, add-one, arith}
 
 -- row r of column c lies inside
 pub inside : (c columns r dim : ℕ) → c < columns → r < dim → c * dim + r < dim * columns

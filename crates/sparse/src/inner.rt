@@ -4,8 +4,6 @@ ghost use Rattle.lists.specs.UpTo.{all};
 ghost use Rattle.sparse.specs.Sparse.{items_of, start_of};
 ghost use Rattle.sparse.specs.Checks.{most_dim, bounded as bounded_of, all_below, entries_fit, starts_fit, selector_fits};
 
-use lists::inner::wide;
-
 // The largest matrix that is taken.
 pub const MOST_DIM: usize = 294912;
 
@@ -28,11 +26,7 @@ pub fn bounded(dim: usize, columns: usize) -> bool
 fn all_below(limit: u32, s: &[u32]) -> bool
     ensures { result ≡ all_below limit s.now }
 {
-    let mut ok = true;
-    for j in 0..s.len() {
-        ok = ok & (s[j] < limit);
-    }
-    ok
+    s.iter().fold(true, |ok, x| ok & (*x < limit))
 }
 
 pub fn entries_fit(dim: usize, rows: &[u32], cols: &[u32], values: &[f64]) -> bool
@@ -51,8 +45,9 @@ fn rising(starts: &[u32], items: usize) -> bool
     ensures { result ≡ all items (λ o. leb (start_of starts.now o) (start_of starts.now (o + 1))) }
 {
     let mut ok = true;
+    // Kept: each element is read beside the next one, which a fold over a zip says in more words.
     for o in 0..items {
-        ok = ok & (starts[o] <= starts[o + 1]);
+        ok &= starts[o] <= starts[o + 1];
     }
     ok
 }
@@ -63,7 +58,7 @@ fn starts_fit(starts: &[u32], n: usize) -> bool
     if 0 < starts.len() {
         let items = starts.len() - 1;
         let a = starts[0] == 0;
-        let b = wide(starts[items]) == n;
+        let b = starts[items] as usize == n;
         return a & b & rising(starts, items);
     }
     false

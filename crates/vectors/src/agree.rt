@@ -1,69 +1,35 @@
-// Whether lists and floats are the kept ones.
-use crate::input;
-use std::io;
-use std::io::Read;
+// What a list to be written holds before a call, and whether floats are the kept ones.
+ghost use Rattle.std.specs.Prelude.{◌≡◌, if◌then◌else◌, is_nan, to_bits};
+ghost use Rattle.std.specs.Float.{binary64};
 
-// Equal bits, or both no number: zeros of unlike sign have unlike inverses.
-pub(crate) fn same_float(a: f64, b: f64) -> bool {
-    if a != a {
-        return b != b;
+pub(crate) const UNWRITTEN: u32 = 0xa5a50000;
+// Before the second call a float is a NaN.
+pub(crate) const UNWRITTEN_FLOAT: f64 = -1234.5;
+
+// The word that keeps a float: every NaN has one word, and zeros of unlike sign have two.
+pub(crate) fn word_of(x: f64) -> u64
+    ensures { result ≡ (if is_nan x then 0x7ff8_0000_0000_0000 else to_bits binary64 x) }
+{
+    if x.is_nan() {
+        0x7ff8000000000000
+    } else {
+        x.to_bits()
     }
-    (a == b) & (1.0 / a == 1.0 / b)
 }
 
-fn number_at(list: &[u32], at: usize) -> u32 {
-    if at < list.len() {
-        return list[at];
-    }
-    0
-}
-
-fn float_at(list: &[f64], at: usize) -> f64 {
-    if at < list.len() {
-        return list[at];
-    }
-    0.0
-}
-
-// The list is the next numbers. All of them are read.
-pub(crate) fn numbers(from: &mut impl Read, list: &[u32]) -> io::Result<bool> {
-    let end = list.len();
-    let mut same = true;
-    let mut at = 0;
-    while at < end {
-        same = same & (number_at(list, at) == input::number(from)?);
-        at += 1;
-    }
-    Ok(same)
-}
-
-// The same of floats.
-pub(crate) fn floats(from: &mut impl Read, list: &[f64]) -> io::Result<bool> {
-    let end = list.len();
-    let mut same = true;
-    let mut at = 0;
-    while at < end {
-        same = same & same_float(float_at(list, at), input::float(from)?);
-        at += 1;
-    }
-    Ok(same)
+pub(crate) fn are_same(list: &[f64], kept: &[f64]) -> bool {
+    list.iter()
+        .zip(kept)
+        .all(|(x, y)| word_of(*x) == word_of(*y))
 }
 
 // What a call leaves where NaNs are lent: a NaN where the list shows that nothing is written, else what the list holds.
-pub(crate) fn over_nans(list: &[f64], nans: &[f64]) -> bool {
-    let end = list.len();
-    let mut same = true;
-    let mut at = 0;
-    while at < end {
-        same = same & left_alike(float_at(list, at), float_at(nans, at));
-        at += 1;
-    }
-    same
-}
-
-fn left_alike(held: f64, over_nan: f64) -> bool {
-    if held == -1234.5 {
-        return over_nan != over_nan;
-    }
-    same_float(held, over_nan)
+pub(crate) fn are_left_alike(list: &[f64], over_nans: &[f64]) -> bool {
+    list.iter().zip(over_nans).all(|(held, over_nan)| {
+        if *held == UNWRITTEN_FLOAT {
+            over_nan.is_nan()
+        } else {
+            word_of(*held) == word_of(*over_nan)
+        }
+    })
 }

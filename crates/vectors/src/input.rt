@@ -1,11 +1,40 @@
 // What is read from standard input.
-ghost use Rattle.std.specs.Prelude.{◌<◌, length, take, IfOk};
+ghost use Rattle.std.specs.Prelude.{◌≡◌, ◌<◌, ◌≤◌, length, take, min, vec_len, IfOk};
 ghost use Rattle.std.specs.Io.{ReadsAtMost};
 ghost use Rattle.std.specs.Io.KnownBytes.{Consumes, IsAtEnd};
 
-use lists::inner::{store_f64, store_u32};
+use records::inner::{float_at, read32};
+use std::alloc::Global;
 use std::io;
 use std::io::Read;
+
+// Records take no more bytes, and a list has no more elements.
+const MOST_BYTES: u64 = 4096;
+
+const MOST_ELEMENTS: u64 = 1024;
+
+// A value that is kept as a word of eight bytes.
+pub(crate) trait Word: Copy {
+    fn of_word(word: &[u8; 8]) -> Self;
+}
+
+impl Word for u64 {
+    fn of_word(word: &[u8; 8]) -> u64 {
+        u64::from_le_bytes(*word)
+    }
+}
+
+impl Word for u32 {
+    fn of_word(word: &[u8; 8]) -> u32 {
+        read32(word, 0)
+    }
+}
+
+impl Word for f64 {
+    fn of_word(word: &[u8; 8]) -> f64 {
+        float_at(word, 0)
+    }
+}
 
 // Reads until `to` is full or the input ends, and returns how many bytes it put at the start of `to`.
 fn read_full<R: Read>(from: &mut R, to: &mut [u8]) -> io::Result<usize>
@@ -13,6 +42,7 @@ fn read_full<R: Read>(from: &mut R, to: &mut [u8]) -> io::Result<usize>
     ensures bytes { IfOk result (λ n. Consumes (R.remaining from.old) (R.remaining from.new) (take n to.new)) }
     ensures end { IfOk result (λ n. n < length to.new → IsAtEnd (R.remaining from.new)) }
 {
+    // Kept: std's `read_exact` is an error at the end, and says nothing of the bytes before it.
     let mut done = 0;
     while done < to.len() {
         let n = from.read(&mut to[done..])?;
@@ -26,68 +56,40 @@ fn read_full<R: Read>(from: &mut R, to: &mut [u8]) -> io::Result<usize>
 
 // The line at the front.
 pub(crate) fn skip_head(from: &mut impl Read) -> io::Result<()> {
-    let mut head = [0u8; 128];
-    read_full(from, &mut head)?;
+    read_full(from, &mut [0; 128])?;
     Ok(())
-}
-
-fn word_of(b: &[u8; 8]) -> u64 {
-    records::inner::read64(b, 0)
-}
-
-fn number_of(b: &[u8; 8]) -> u32 {
-    records::inner::read32(b, 0)
-}
-
-fn float_of(b: &[u8; 8]) -> f64 {
-    records::inner::float_at(b, 0)
 }
 
 // The next word; 0 past the end.
-pub(crate) fn word(from: &mut impl Read) -> io::Result<u64> {
-    let mut b = [0u8; 8];
-    read_full(from, &mut b)?;
-    Ok(word_of(&b))
+pub(crate) fn next<T: Word>(from: &mut impl Read) -> io::Result<T> {
+    let mut word = [0; 8];
+    read_full(from, &mut word)?;
+    Ok(T::of_word(&word))
 }
 
-// The next word as a number of 32 bits.
-pub(crate) fn number(from: &mut impl Read) -> io::Result<u32> {
-    let mut b = [0u8; 8];
-    read_full(from, &mut b)?;
-    Ok(number_of(&b))
-}
-
-// The next word as a float.
-pub(crate) fn float(from: &mut impl Read) -> io::Result<f64> {
-    let mut b = [0u8; 8];
-    read_full(from, &mut b)?;
-    Ok(float_of(&b))
-}
-
-// The next bytes.
-pub(crate) fn bytes(from: &mut impl Read, to: &mut [u8]) -> io::Result<()> {
-    read_full(from, to)?;
-    Ok(())
-}
-
-// The next numbers.
-pub(crate) fn numbers(from: &mut impl Read, to: &mut [u32]) -> io::Result<()> {
-    let end = to.len();
-    let mut at = 0;
-    while at < end {
-        store_u32(to, at, number(from)?);
-        at += 1;
+// The next words.
+pub(crate) fn words<const N: usize>(from: &mut impl Read) -> io::Result<[u64; N]> {
+    let mut words = [0; N];
+    for word in words.iter_mut() {
+        *word = next(from)?;
     }
-    Ok(())
+    Ok(words)
 }
 
-// The next floats.
-pub(crate) fn floats(from: &mut impl Read, to: &mut [f64]) -> io::Result<()> {
-    let end = to.len();
-    let mut at = 0;
-    while at < end {
-        store_f64(to, at, float(from)?);
-        at += 1;
-    }
-    Ok(())
+// The next bytes; 0 past the end.
+pub(crate) fn bytes(alloc: Global, from: &mut impl Read, length: u64) -> io::Result<Vec<u8>>
+    ensures { IfOk result (λ v. vec_len v ≡ min length 4096) }
+{
+    let mut bytes = vec![in alloc; 0; length.min(MOST_BYTES) as usize]?;
+    read_full(from, &mut bytes)?;
+    Ok(bytes)
+}
+
+// The next words as a list.
+pub(crate) fn list<T: Word>(alloc: Global, from: &mut impl Read, length: u64) -> io::Result<Vec<T>>
+    ensures { IfOk result (λ v. vec_len v ≤ 1024) }
+{
+    (0..length.min(MOST_ELEMENTS))
+        .map(|_| next(from))
+        .try_collect(alloc)
 }

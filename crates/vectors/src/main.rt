@@ -4,41 +4,58 @@
 mod agree;
 mod answers;
 mod calls;
+mod entry;
 mod input;
 mod networks;
-mod parts;
 mod tally;
 
+use calls::Call;
+use input::next;
 use std::io;
 use std::io::Read;
 use tally::Tally;
 
-// One case of the kind. A kind that is not known ends the replay.
-fn case(rt: &impl Print, from: &mut impl Read, kind: u64, t: Tally) -> io::Result<Tally> {
-    if kind == 1 {
-        return networks::network(rt, from, t.case());
+// What a case is, by the word before it.
+enum Kind {
+    Network,
+    Call,
+    End,
+}
+
+impl From<u64> for Kind {
+    // A kind that is not known ends the replay.
+    fn from(word: u64) -> Kind {
+        match word {
+            1 => Kind::Network,
+            2 => Kind::Call,
+            _ => Kind::End,
+        }
     }
-    if kind == 2 {
-        return calls::call(rt, from, t.case());
-    }
-    Ok(t.ended())
 }
 
 // The cases up to kind 0. A proved loop has to end, so the turns are counted.
-fn cases(rt: &impl Print, from: &mut impl Read) -> io::Result<Tally> {
-    let mut t = Tally::new();
-    let mut turns: u64 = 1000000;
-    while turns > 0 && t.open {
-        let kind = input::word(from)?;
-        t = case(rt, from, kind, t)?;
-        turns -= 1;
+fn replay(rt: &(impl Print + AllocGlobal), from: &mut impl Read) -> io::Result<Tally> {
+    let mut tally = Tally::default();
+    for _ in 0..1_000_000 {
+        match Kind::from(next::<u64>(from)?) {
+            Kind::Network => {
+                tally.begin();
+                networks::replay(rt, from, &mut tally)?;
+            }
+            Kind::Call => {
+                tally.begin();
+                let call = Call::next(rt.alloc(), from)?;
+                tally.count(rt, call.agrees(rt.alloc())?)?;
+            }
+            Kind::End => break,
+        }
     }
-    Ok(t)
+    Ok(tally)
 }
 
 fn main(rt: HostRuntime) -> io::Result<()> {
     let mut from = rt.stdin();
     input::skip_head(&mut from)?;
-    let t = cases(&rt, &mut from)?;
-    t.print(&rt)
+    let tally = replay(&rt, &mut from)?;
+    println!(rt; "{tally}")
 }

@@ -1,55 +1,45 @@
 // How many cases were replayed and how many of their answers agree.
-use std::io;
-use std::num::wrapping_add_u64;
+ghost use Rattle.std.specs.Prelude.{◌≡◌, ◌+◌, ◌%◌, ◌^◌, if◌then◌else◌};
 
-#[derive(Clone, Copy)]
-pub struct Tally {
-    pub open: bool,
-    pub cases: u64,
-    pub answers: u64,
-    pub agree: u64,
+use std::{fmt, io};
+
+#[derive(Clone, Copy, Default)]
+pub(crate) struct Tally {
+    pub(crate) cases: u64,
+    pub(crate) answers: u64,
+    pub(crate) agree: u64,
 }
 
 impl Tally {
-    pub(crate) fn new() -> Tally {
-        Tally {
-            open: true,
-            cases: 0,
-            answers: 0,
-            agree: 0,
-        }
-    }
-
     // One case more.
-    pub(crate) fn case(self) -> Tally {
-        let mut t = self;
-        t.cases = wrapping_add_u64(self.cases, 1);
-        t
-    }
-
-    // No case is left.
-    pub(crate) fn ended(self) -> Tally {
-        let mut t = self;
-        t.open = false;
-        t
+    pub(crate) fn begin(&mut self)
+        ensures { self.new ≡ record self.old { cases = (self.old.cases + 1) % 2 ^ 64 } }
+    {
+        self.cases = self.cases.wrapping_add(1);
     }
 
     // One answer more; one that differs is named by its case.
-    pub(crate) fn answer(self, rt: &impl Print, same: bool) -> io::Result<Tally> {
-        let mut t = self;
-        t.answers = wrapping_add_u64(self.answers, 1);
+    pub(crate) fn count(&mut self, rt: &impl Print, same: bool) -> io::Result<()>
+        ensures cases { self.new.cases ≡ self.old.cases }
+        ensures answers { self.new.answers ≡ (self.old.answers + 1) % 2 ^ 64 }
+        ensures agree { self.new.agree ≡ (if same then (self.old.agree + 1) % 2 ^ 64 else self.old.agree) }
+    {
+        self.answers = self.answers.wrapping_add(1);
         if same {
-            t.agree = wrapping_add_u64(self.agree, 1);
-        } else {
-            println!(rt; "differs: case {}, answer {}", self.cases, t.answers)?;
+            self.agree = self.agree.wrapping_add(1);
+            return Ok(());
         }
-        Ok(t)
+        println!(rt; "differs: case {}, answer {}", self.cases, self.answers)
     }
+}
 
-    pub(crate) fn print(self, rt: &impl Print) -> io::Result<()> {
-        println!(rt;
-            "{} cases, {} of {} answers agree",
-            self.cases, self.agree, self.answers
-        )
+impl fmt::Display for Tally {
+    fn fmt<W: fmt::Write>(&self, f: &mut fmt::Formatter<W>) -> fmt::Result {
+        let Tally {
+            cases,
+            answers,
+            agree,
+        } = *self;
+        write!(f, "{cases} cases, {agree} of {answers} answers agree")
     }
 }

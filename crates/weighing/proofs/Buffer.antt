@@ -1,12 +1,7 @@
 -- Laws of the buffer: a cell kept, and two gatherings joined. Assumes nothing.
-use Prim.Native.Nat.{ℕ, ◌+◌, ◌-◌, ◌≤◌, ◌<◌}
-use mathlib.Core.Path.{◌≡◌, sym, ap, ap₂, ◌∙◌}
-use mathlib.Core.List.{List, [], ◌∷◌, ◌++◌, append-nil, append_assoc}
+use Rattle.std.proofs.Common.{ℕ, ◌+◌, ◌-◌, ◌≤◌, ◌<◌, ◌≡◌, sym, ap, ap₂, ◌∙◌, List, [], ◌∷◌, ◌++◌, append-nil, append_assoc, arith, length, set, length-append, get_or-set_same, get_or-set_other, Float}
+use Rattle.std.specs.Float.{nan}
 use native.Mathlib.Decide.{ℕ_discrete}
-use native.Mathlib.Omega.{arith}
-use lib.ListN.{length, set, length-append}
-use lib.Seq.{get_or-set_same, get_or-set_other}
-use lib.Ieee.{Float, nan}
 use Rattle.lists.specs.UpTo.{up_to, each}
 use Rattle.lists.specs.Entries.{Cell, cell}
 use Rattle.lists.proofs.UpTo.{up_to-more, up_to-same}

@@ -1,11 +1,6 @@
 -- Laws of a pass: none, one cell, two passes joined. Assumes nothing.
-use Prim.Native.Nat.{ℕ, ◌<◌}
-use mathlib.Core.Path.{◌≡◌, refl, sym, ap, ◌∙◌}
-use mathlib.Core.Logic.{◌⊎◌, inl, inr, ⊎_elim}
-use mathlib.Core.List.{List}
-use lib.ListN.{length, get_or, set, length-set}
-use lib.Seq.{get_or-set_same, get_or-set_other}
-use lib.Ieee.{Float, nan}
+use Rattle.std.proofs.Common.{ℕ, ◌<◌, ◌≡◌, refl, sym, ap, ◌∙◌, ◌⊎◌, inl, inr, ⊎_elim, List, length, get_or, set, length-set, get_or-set_same, get_or-set_other, Float}
+use Rattle.std.specs.Float.{nan}
 use Rattle.weighing.specs.Passes.{Passed}
 
 module _ {pos : ℕ → ℕ → ℕ} {f : ℕ → ℕ → Float → Float} where

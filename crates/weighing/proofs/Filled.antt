@@ -1,12 +1,8 @@
 -- The buffer goes on by one column. Assumes nothing.
-use Prim.Native.Nat.{ℕ, ◌+◌, ◌*◌, ◌-◌, ◌≤◌, ◌<◌}
-use mathlib.Core.Path.{◌≡◌, refl, sym, ap, ◌∙◌}
-use mathlib.Core.List.{List, [], ◌∷◌, ◌++◌}
+use Rattle.std.proofs.Common.{ℕ, ◌+◌, ◌*◌, ◌-◌, ◌≤◌, ◌<◌, ◌≡◌, refl, sym, ap, ◌∙◌, List, [], ◌∷◌, ◌++◌, arith, length, get_or, set, take, drop, get_or-set_same, get_or-set_other, take_at, drop_at}
+use Rattle.std.proofs.Common.{Float}
+use Rattle.std.specs.Float.{nan}
 use native.Mathlib.Decide.{ℕ_discrete}
-use native.Mathlib.Omega.{arith}
-use lib.ListN.{length, get_or, set, take, drop}
-use lib.Seq.{get_or-set_same, get_or-set_other, take_at, drop_at}
-use lib.Ieee.{Float, nan}
 use Rattle.lists.specs.UpTo.{listed}
 use Rattle.lists.specs.Entries.{Cell, cell}
 use Rattle.lists.proofs.UpTo.{up_to-same}

@@ -1,14 +1,7 @@
 -- A pass goes on by one segment, of one dense column or of two, and by more dense columns. Assumes nothing.
-use Prim.Native.Nat.{ℕ, ◌+◌, ◌*◌, ◌-◌, ◌≤◌, ◌<◌}
-use mathlib.Core.Path.{◌≡◌, sym, ap, ◌∙◌}
-use mathlib.Core.Logic.{◌⊎◌, inl, inr, ⊎_elim}
-use mathlib.Core.List.{List}
-use native.Mathlib.Nat.{zero-mul, one-mul, add-mul}
+use Rattle.std.proofs.Common.{ℕ, ◌+◌, ◌*◌, ◌-◌, ◌≤◌, ◌<◌, ◌≡◌, sym, ap, ◌∙◌, inl, inr, ⊎_elim, List, zero-mul, one-mul, add-mul, arith, length, get_or, set, get_or-set_other, Float}
+use Rattle.std.specs.Float.{nan}
 use native.Mathlib.Decide.{ℕ_discrete, dec_lt}
-use native.Mathlib.Omega.{arith}
-use lib.ListN.{length, get_or, set}
-use lib.Seq.{get_or-set_other}
-use lib.Ieee.{Float, nan}
 use Rattle.sparse.specs.Sparse.{item_of}
 use Rattle.weighing.specs.Weighing.{weighed}
 use Rattle.weighing.specs.Passes.{place, Below, Spread, Passed, weighed_at}

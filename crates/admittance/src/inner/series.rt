@@ -106,9 +106,8 @@ fn entries(r: OhmRows, c: OhmColumns, t: Series, gb: GB) -> [Entry; 10]
 fn land_all(column: &mut [f64], nvar: u32, es: [Entry; 10], x: &[f64], z: &[f64])
     ensures { column.new ≡ stored_all (landed_all x.now z.now nvar es) column.old }
 {
-    for j in 0..10 {
-        let d = es[j];
-        land(column, nvar, d.0, d.1, d.2, x, z);
+    for e in &es {
+        land(column, nvar, e.0, e.1, e.2, x, z);
     }
 }
 

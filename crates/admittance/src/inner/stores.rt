@@ -8,10 +8,7 @@ ghost use Rattle.admittance.specs.Stores.{plus, stored_all};
 pub fn value(x: &[f64], at: usize) -> f64
     ensures { result ≡ get_or x.now at nan }
 {
-    if at < x.len() {
-        return x[at];
-    }
-    0.0 / 0.0
+    x.get(at).copied().unwrap_or(f64::NAN)
 }
 
 // column[at] += v.
@@ -19,7 +16,7 @@ pub fn add(column: &mut [f64], at: usize, v: f64)
     ensures { column.new ≡ set column.old at (add binary64 (get_or column.old at nan) v) }
 {
     if at < column.len() {
-        column[at] = column[at] + v;
+        column[at] += v;
     }
 }
 

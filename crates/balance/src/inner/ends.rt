@@ -1,59 +1,31 @@
 // The ends that balance rows add up: generators, and branches at their from and to buses.
-ghost use Rattle.std.specs.Prelude.{◌≡◌, true, false, ◌<◌};
+ghost use Rattle.std.specs.Prelude.{◌≡◌, ◌<◌};
 ghost use Rattle.numbering.specs.Layout.{InRange, layout_column};
-ghost use Rattle.numbering.specs.Laid.{net_of, Laid};
+ghost use Rattle.numbering.specs.Network.{grid};
 ghost use Rattle.rows.specs.Rows.{constant64};
 ghost use Rattle.balance.specs.Ends.{end_count, bus_at, end_column, end_constant, self_value};
 
 use crate::End;
-use lists::inner::wide;
-use numbering::SocWrLayout;
-use records::inner::{br_from, br_to, bs, gen_bus, gs};
+use numbering::{Network, SocWrLayout};
 
 pub(crate) fn count_at(l: SocWrLayout, end: End) -> usize
     ensures { result ≡ end_count l end }
 {
     match end {
         End::Gen => l.k,
-        End::From => l.m,
-        End::To => l.m,
+        End::From | End::To => l.m,
     }
 }
 
 // The bus of end j.
-pub(crate) fn bus_at(l: SocWrLayout, bytes: &[u8], end: End, j: usize) -> usize
-    requires laid { Laid l bytes.now }
-    requires j_bound { j < end_count l end }
-    ensures { result ≡ bus_at (net_of l bytes.now) end j }
+pub(crate) fn bus_at(net: &Network<'_>, end: End, j: usize) -> usize
+    requires { j < end_count net.now.layout end }
+    ensures { result ≡ bus_at (grid net.now) end j }
 {
     match end {
-        End::Gen => wide(gen_bus(bytes, l.n + l.m + j)),
-        End::From => wide(br_from(bytes, l.n + j)),
-        End::To => wide(br_to(bytes, l.n + j)),
-    }
-}
-
-fn active_column(l: SocWrLayout, end: End, j: usize) -> u32
-    requires in_range { InRange l }
-    requires j_bound { j < end_count l end }
-    ensures { result ≡ layout_column l (end_column false end j) }
-{
-    match end {
-        End::Gen => l.pg_column(j),
-        End::From => l.pf_column(j),
-        End::To => l.pt_column(j),
-    }
-}
-
-fn reactive_column(l: SocWrLayout, end: End, j: usize) -> u32
-    requires in_range { InRange l }
-    requires j_bound { j < end_count l end }
-    ensures { result ≡ layout_column l (end_column true end j) }
-{
-    match end {
-        End::Gen => l.qg_column(j),
-        End::From => l.qf_column(j),
-        End::To => l.qt_column(j),
+        End::Gen => net.generator(j).gen_bus() as usize,
+        End::From => net.branch(j).br_from() as usize,
+        End::To => net.branch(j).br_to() as usize,
     }
 }
 
@@ -63,10 +35,14 @@ pub(crate) fn column_at(l: SocWrLayout, q: bool, end: End, j: usize) -> u32
     requires j_bound { j < end_count l end }
     ensures { result ≡ layout_column l (end_column q end j) }
 {
-    if q {
-        return reactive_column(l, end, j);
+    match (end, q) {
+        (End::Gen, false) => l.pg_column(j),
+        (End::Gen, true) => l.qg_column(j),
+        (End::From, false) => l.pf_column(j),
+        (End::From, true) => l.qf_column(j),
+        (End::To, false) => l.pt_column(j),
+        (End::To, true) => l.qt_column(j),
     }
-    active_column(l, end, j)
 }
 
 pub(crate) fn value_at(end: End) -> f64
@@ -74,19 +50,18 @@ pub(crate) fn value_at(end: End) -> f64
 {
     match end {
         End::Gen => 1.0,
-        End::From => -1.0,
-        End::To => -1.0,
+        End::From | End::To => -1.0,
     }
 }
 
 // The coefficient of the bus's own w.
-pub(crate) fn self_value(l: SocWrLayout, bytes: &[u8], q: bool, i: usize) -> f64
-    requires laid { Laid l bytes.now }
-    requires i_lt_n { i < l.n }
-    ensures { result ≡ self_value (net_of l bytes.now) q i }
+pub(crate) fn self_value(net: &Network<'_>, q: bool, i: usize) -> f64
+    requires { i < net.now.layout.n }
+    ensures { result ≡ self_value (grid net.now) q i }
 {
+    let r = net.bus(i);
     if q {
-        return bs(bytes, i);
+        return r.bs();
     }
-    -gs(bytes, i)
+    -r.gs()
 }

@@ -1,19 +1,21 @@
 // The rows of the bounds.
 ghost use Rattle.std.specs.Prelude.{◌≡◌, ◌+◌, ◌<◌, ◌^◌, length};
-ghost use Rattle.lists.specs.Out.{out, Wrote};
 ghost use Rattle.lists.specs.UpTo.{each};
+ghost use Rattle.lists.specs.Puts.{Puts};
 ghost use Rattle.lines.specs.Line.{Stands};
-ghost use Rattle.complementarity.specs.Writes.{Given, row_entries};
+ghost use Rattle.complementarity.specs.Writes.{row_entries};
 ghost use Rattle.blocks.specs.Kinds.{bound_name, bound_count};
-ghost use Rattle.numbering.specs.Laid.{net_of, Laid};
+ghost use Rattle.numbering.specs.Network.{grid};
 
 use crate::BoundKind;
+use complementarity::Point;
 use complementarity::inner::single::put_row;
 use lines::Line;
 use lines::inner::angles::{anglb, angub};
 use lines::inner::buses::{wlb, wub};
 use lines::inner::generators::{pglb, pgub, qglb, qgub};
-use numbering::SocWrLayout;
+use lists::Triplets;
+use numbering::{Network, SocWrLayout};
 
 fn count_of(l: SocWrLayout, kind: BoundKind) -> usize
     ensures { result ≡ bound_count l kind }
@@ -30,11 +32,12 @@ fn count_of(l: SocWrLayout, kind: BoundKind) -> usize
     }
 }
 
-fn bound_line(l: SocWrLayout, bytes: &[u8], kind: BoundKind, i: usize) -> Line
-    requires laid { Laid l bytes.now }
-    requires i_bound { i < bound_count l kind }
-    ensures { Stands (net_of l bytes.now) (bound_name kind i) result }
+fn bound_line(net: &Network<'_>, kind: BoundKind, i: usize) -> Line
+    requires { i < bound_count net.now.layout kind }
+    ensures { Stands (grid net.now) (bound_name kind i) result }
 {
+    let l = net.layout;
+    let bytes = net.bytes;
     match kind {
         BoundKind::Wub => wub(l, bytes, i),
         BoundKind::Wlb => wlb(l, bytes, i),
@@ -47,52 +50,23 @@ fn bound_line(l: SocWrLayout, bytes: &[u8], kind: BoundKind, i: usize) -> Line
     }
 }
 
-fn bound_row(
-    rows: &mut [u32],
-    cols: &mut [u32],
-    vals: &mut [f64],
-    at: usize,
-    l: SocWrLayout,
-    bytes: &[u8],
-    x: &[f64],
-    z: &[f64],
-    d: bool,
-    kind: BoundKind,
-    i: usize,
-) -> usize
-    requires given { Given l bytes.now x.now z.now }
-    requires i_bound { i < bound_count l kind }
-    requires i_bound_2 { at + length (row_entries (net_of l bytes.now) x.now z.now d (bound_name kind i)) < 2 ^ 64 }
-    ensures { Wrote (row_entries (net_of l bytes.now) x.now z.now d (bound_name kind i)) (out rows.old cols.old vals.old at) (out rows.new cols.new vals.new result) }
+fn bound_row(list: &mut Triplets<'_>, p: &Point<'_>, d: bool, kind: BoundKind, i: usize)
+    requires i_bound { i < bound_count p.now.net.layout kind }
+    requires room { list.old.at + length (row_entries (grid p.now.net) p.now.x.now p.now.z.now d (bound_name kind i)) < 2 ^ 64 }
+    ensures { Puts (row_entries (grid p.now.net) p.now.x.now p.now.z.now d (bound_name kind i)) list.old list.new }
 {
-    let line = bound_line(l, bytes, kind, i);
-    let v = l.column_count();
-    put_row(rows, cols, vals, at, d, v, line, x, z)
+    let line = bound_line(&p.net, kind, i);
+    let v = p.net.layout.column_count();
+    put_row(list, d, v, line, p.x, p.z);
 }
 
 // The rows of one kind: as they are, or where d holds as rows of the nonnegative cone.
-pub fn bound_rows(
-    rows: &mut [u32],
-    cols: &mut [u32],
-    vals: &mut [f64],
-    at: usize,
-    l: SocWrLayout,
-    bytes: &[u8],
-    x: &[f64],
-    z: &[f64],
-    d: bool,
-    kind: BoundKind,
-) -> usize
-    requires given { Given l bytes.now x.now z.now }
-    requires i_bound { at + length (each (bound_count l kind) (λ i. row_entries (net_of l bytes.now) x.now z.now d (bound_name kind i))) < 2 ^ 64 }
-    ensures { Wrote (each (bound_count l kind) (λ i. row_entries (net_of l bytes.now) x.now z.now d (bound_name kind i))) (out rows.old cols.old vals.old at) (out rows.new cols.new vals.new result) }
+pub fn bound_rows(list: &mut Triplets<'_>, p: &Point<'_>, d: bool, kind: BoundKind)
+    requires room { list.old.at + length (each (bound_count p.now.net.layout kind) (λ i. row_entries (grid p.now.net) p.now.x.now p.now.z.now d (bound_name kind i))) < 2 ^ 64 }
+    ensures { Puts (each (bound_count p.now.net.layout kind) (λ i. row_entries (grid p.now.net) p.now.x.now p.now.z.now d (bound_name kind i))) list.old list.new }
 {
-    let n = count_of(l, kind);
-    let mut next = at;
-    let mut i = 0;
-    while i < n {
-        next = bound_row(rows, cols, vals, next, l, bytes, x, z, d, kind, i);
-        i += 1;
+    let n = count_of(p.net.layout, kind);
+    for i in 0..n {
+        bound_row(list, p, d, kind, i);
     }
-    next
 }

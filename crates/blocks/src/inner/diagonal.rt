@@ -1,33 +1,21 @@
 // P.
-ghost use Rattle.std.specs.Prelude.{◌+◌, ◌*◌, ◌<◌, ◌^◌, length};
-ghost use Rattle.lists.specs.Out.{out, Wrote};
+ghost use Rattle.std.specs.Prelude.{◌+◌, ◌<◌, ◌^◌, length};
+ghost use Rattle.lists.specs.Puts.{Puts};
 ghost use Rattle.rows.specs.Program.{quadratic};
-ghost use Rattle.numbering.specs.Laid.{net_of, Laid};
+ghost use Rattle.numbering.specs.Network.{grid};
 
-use lists::inner::put_if;
-use numbering::SocWrLayout;
+use lists::Triplets;
+use numbering::Network;
 use quadratic::inner::quad_value;
 
 // The diagonal of P.
-pub fn put_quadratic(
-    rows: &mut [u32],
-    cols: &mut [u32],
-    vals: &mut [f64],
-    at: usize,
-    l: SocWrLayout,
-    bytes: &[u8],
-) -> usize
-    requires laid { Laid l bytes.now }
-    requires bytes_bound { at + length (quadratic (net_of l bytes.now)) < 2 ^ 64 }
-    ensures { Wrote (quadratic (net_of l bytes.now)) (out rows.old cols.old vals.old at) (out rows.new cols.new vals.new result) }
+pub fn put_quadratic(list: &mut Triplets<'_>, net: &Network<'_>)
+    requires room { list.old.at + length (quadratic (grid net.now)) < 2 ^ 64 }
+    ensures { Puts (quadratic (grid net.now)) list.old list.new }
 {
-    let mut next = at;
-    let mut g = 0;
-    while g < l.k {
-        let v = quad_value(l, bytes, g);
-        let c = l.pg_column(g);
-        next = put_if(rows, cols, vals, next, v != 0.0, c, c, v);
-        g += 1;
+    for g in 0..net.layout.k {
+        let v = quad_value(net.layout, net.bytes, g);
+        let c = net.layout.pg_column(g);
+        list.put_if(v != 0.0, c, c, v);
     }
-    next
 }

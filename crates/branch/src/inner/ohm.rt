@@ -67,6 +67,7 @@ pub fn wi_value(q: OhmRow, t: Series) -> f64
 }
 
 // The coefficients of wr and of wi in the four Ohm rows.
+// Kept: one function for both would take the one to call, and each call would name it.
 pub fn wr_products(t: Series) -> Products
     ensures { result ≡ products_of (branch_with t zero64) wr }
 {

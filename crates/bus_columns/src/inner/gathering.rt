@@ -34,10 +34,7 @@ pub(crate) fn gather(vals: &mut [f64], at: usize, l: SocWrLayout, bytes: &[u8])
     requires m_in_bounds { at + 4 * l.m ≤ length vals.old }
     ensures { Filled (each l.m (four_of (net_of l bytes.now))) vals.old at vals.new }
 {
-    let m = l.m;
-    let mut e = 0;
-    while e < m {
+    for e in 0..l.m {
         put_four(vals, at + 4 * e, l, bytes, e);
-        e += 1;
     }
 }

@@ -1,21 +1,23 @@
--- `columns::parameter_jacobian` meets its contract. The record check, and then the column of its layout. Assumes nothing.
-use Rattle.refusals.proofs.Laws.{accepted-by, refused-by}
-use Rattle.numbering.proofs.OnePass.{pass-layout, pass-laid, pass-before}
-use Rattle.refusals.proofs.Entry.{answer-first, left-first, then-second}
+-- The record check ends the entry, or the column of the network's layout decides.
+use Rattle.std.proofs.Common.{refl}
+use Rattle.refusals.proofs.Laws.{refused_by, answer_ended, answer_went_on, left_ended, left_went_on}
+use Rattle.numbering.proofs.OnePass.{pass-check, pass-layout, pass-laid, pass-before}
 use Rattle.columns.proofs.parameter_jacobian.Goals as goal
 
-pub returns-then-is_refused : goal.returns-then-is_refused
-returns-then-is_refused c =
-    let p = c.check_layout-checked.ensures.check in
-    let h = refused-by p c.is_refused.ensures c.if-is_refused.true in record { value = answer-first _ _ 0 _ h (rw (← p) c.written_if.ensures); column_after = left-first _ _ _ _ h }
+pub returns-in_err-checked : goal.returns-in_err-checked
+returns-in_err-checked c =
+    let h = refused_by _ _ c.check_layout.ensures c.in_err-checked.was in
+    record { value = answer_ended _ _ refl c.from_residual.ensures.1 h; column_after = left_ended refl _ _ _ h }
 
 pub column_of-requires : goal.column_of-requires
 column_of-requires c =
-    let p = c.check_layout-checked.ensures in
-    let h = accepted-by p.check c.is_refused.ensures c.if-is_refused.false in record { laid = pass-laid p h; before_value = rw (pass-layout p h) (pass-before p h) }
+    let p = c.check_layout.ensures in
+    let h = c.in_ok-checked.was in
+    record { laid = pass-laid _ _ _ _ _ _ p h; before_value = rw (pass-layout _ _ _ _ _ _ p h) (pass-before _ _ _ _ _ _ p h) }
 
 pub returns : goal.returns
 returns c =
-    let p = c.check_layout-checked.ensures in
-    let h = accepted-by p.check c.is_refused.ensures c.if-is_refused.false in
-    let e = rw (pass-layout p h) at c.column_of.ensures in record { value = rw (← then-second _ _ h) e.value; column_after = rw (← then-second _ _ h) e.column_after }
+    let p = c.check_layout.ensures in
+    let h = pass-check _ _ _ _ _ _ p c.in_ok-checked.was in
+    let e = rw (pass-layout _ _ _ _ _ _ p c.in_ok-checked.was) at c.column_of.ensures in
+    record { value = answer_went_on _ _ refl h e.value; column_after = left_went_on refl _ _ _ h e.column_after }

@@ -1,6 +1,6 @@
 // One column of the KKT system by a parameter.
 ghost use Rattle.std.specs.Prelude.{◌≡◌, ◌<◌, length};
-ghost use Rattle.refusals.specs.Refusals.{written_if, left_in};
+ghost use Rattle.refusals.specs.Refusals.{answer_if, left_in};
 ghost use Rattle.numbering.specs.Tally.{tally_of};
 ghost use Rattle.numbering.specs.Laid.{net_of, Laid};
 ghost use Rattle.numbering.specs.declared.Tally.TheVariants.{Limited};
@@ -13,16 +13,15 @@ use admittance::inner::series::series_admittance;
 use admittance::inner::shunt::shunt;
 use elements::inner::lengths::{asks_cost, has_parameter, parameter_count};
 use interface::Parameter;
-use lists::inner::fill_f64;
+use lists::inner::fill;
 use numbering::SocWrLayout;
 use plain_columns::inner::{cost, demand, gen_bound, voltage_bound};
 use records::inner::{id, piecewise};
-use refusals::{
-    Checked, Refusal, Written, is_refused, or_else, refuse_unless, room_for, written_if,
-};
+use refusals::{Refusal, refuse_unless, room_for};
 use solution::inner::solution_cause;
 
 // The stores of a column; before branch i there are so many limited ones.
+#[tactic(auto, unfolding(crate::specs::Jacobian::stores, admittance::specs::Stores::stored_all))]
 fn write(
     l: SocWrLayout,
     bytes: &[u8],
@@ -61,33 +60,30 @@ fn dim(l: SocWrLayout, bytes: &[u8]) -> usize
 }
 
 // 8.
-fn piecewise_cause(l: SocWrLayout, bytes: &[u8], p: Parameter, i: usize) -> Checked
+fn piecewise_cause(l: SocWrLayout, bytes: &[u8], p: Parameter, i: usize) -> Result<(), Refusal>
     requires laid { Laid l bytes.now }
     requires i_bound { i < parameter_len l.n l.m l.k p }
     ensures { result ≡ piecewise_cause (net_of l bytes.now) p i }
 {
-    if asks_cost(p) {
-        let r = l.n + l.m + i;
-        return refuse_unless(
-            !piecewise(bytes, r),
-            Refusal::PiecewiseCost(id(bytes, r) as u64),
-        );
+    if !asks_cost(p) {
+        return Ok(());
     }
-    Checked::Accepted
+    let r = l.n + l.m + i;
+    refuse_unless(
+        !piecewise(bytes, r),
+        Refusal::PiecewiseCost(id(bytes, r) as u64),
+    )
 }
 
 // 9, 7, 8.
-fn parameter_cause(l: SocWrLayout, bytes: &[u8], p: Parameter, i: usize) -> Checked
+fn parameter_cause(l: SocWrLayout, bytes: &[u8], p: Parameter, i: usize) -> Result<(), Refusal>
     requires { Laid l bytes.now }
     ensures { result ≡ parameter_cause (net_of l bytes.now) p i }
 {
-    if !has_parameter(p) {
-        return Checked::Refused(Refusal::NotInSocWr);
-    }
-    if i < parameter_count(l.n, l.m, l.k, p) {
-        return piecewise_cause(l, bytes, p, i);
-    }
-    Checked::Refused(Refusal::PastEnd(i as u64))
+    refuse_unless(has_parameter(p), Refusal::NotInSocWr)?;
+    let items = parameter_count(l.n, l.m, l.k, p);
+    refuse_unless(i < items, Refusal::PastEnd(i as u64))?;
+    piecewise_cause(l, bytes, p, i)
 }
 
 // 6, 9, 7, 8, 10.
@@ -99,14 +95,13 @@ fn column_cause(
     xs: usize,
     zs: usize,
     there: usize,
-) -> Checked
+) -> Result<(), Refusal>
     requires { Laid l bytes.now }
     ensures { result ≡ column_cause (net_of l bytes.now) p i xs zs there }
 {
-    let solution = solution_cause(l, bytes, xs, zs);
-    let parameter = parameter_cause(l, bytes, p, i);
-    let room = room_for(dim(l, bytes), there);
-    or_else(solution, or_else(parameter, room))
+    solution_cause(l, bytes, xs, zs)?;
+    parameter_cause(l, bytes, p, i)?;
+    room_for(dim(l, bytes), there)
 }
 
 // The column of accepted records.
@@ -119,18 +114,15 @@ pub fn column_of(
     i: usize,
     before: usize,
     column: &mut [f64],
-) -> Written
+) -> Result<u64, Refusal>
     requires laid { Laid l bytes.now }
     requires before_value { i < l.m → before ≡ tally_of Limited bytes.now l.n i }
-    ensures value { result ≡ written_if (column_cause (net_of l bytes.now) p i (length x.now) (length z.now) (length column.old)) (dim (net_of l bytes.now)) }
+    ensures value { result ≡ answer_if (column_cause (net_of l bytes.now) p i (length x.now) (length z.now) (length column.old)) (dim (net_of l bytes.now)) }
     ensures column_after { column.new ≡ left_in (column_cause (net_of l bytes.now) p i (length x.now) (length z.now) (length column.old)) (jacobian (net_of l bytes.now) x.now z.now p i) column.old }
 {
-    let check = column_cause(l, bytes, p, i, x.len(), z.len(), column.len());
+    column_cause(l, bytes, p, i, x.len(), z.len(), column.len())?;
     let need = dim(l, bytes);
-    if is_refused(check) {
-        return written_if(check, need as u64);
-    }
-    fill_f64(column, need, 0.0);
+    fill(column, need, 0.0);
     write(l, bytes, x, z, p, i, before, &mut column[..need]);
-    Written::Count(need as u64)
+    Ok(need as u64)
 }

@@ -9,7 +9,7 @@ ghost use Rattle.admittance.specs.Stores.{put, stored_all};
 ghost use Rattle.columns.specs.Jacobian.{limit_stores};
 
 use admittance::inner::stores::value;
-use lists::inner::store_f64;
+use lists::inner::store;
 use numbering::SocWrLayout;
 use records::inner::thermal_limit_active;
 
@@ -20,7 +20,7 @@ fn six(nvar: u32, base: u32, z: &[f64], column: &mut [f64])
     let start = nvar as usize;
     let first = base as usize;
     for q in 0..6 {
-        store_f64(column, start + (first + q), value(z, first + q));
+        store(column, start + (first + q), value(z, first + q));
     }
 }
 

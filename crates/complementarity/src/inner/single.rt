@@ -2,57 +2,41 @@
 ghost use Rattle.std.specs.Prelude.{◌≡◌, ◌+◌, ◌<◌, ◌^◌, length};
 ghost use Rattle.std.specs.Float.Ieee.{mul};
 ghost use Rattle.std.specs.Float.{binary64};
-ghost use Rattle.lists.specs.Out.{out, Wrote};
+ghost use Rattle.lists.specs.Puts.{Puts};
 ghost use Rattle.lines.specs.Line.{line_at, spot_sum, line_slack, Within};
 ghost use Rattle.complementarity.specs.Writes.{bound_line, line_in};
 
 use lines::{Line, Spot};
-use lists::inner::{put, put_if, wide};
+use lists::Triplets;
 
 // The terms in row r.
-pub(crate) fn put_line(
-    rows: &mut [u32],
-    cols: &mut [u32],
-    vals: &mut [f64],
-    at: usize,
-    r: u32,
-    line: Line,
-) -> usize
-    requires { at + length (line_at r (λ a. a) line) < 2 ^ 64 }
-    ensures { Wrote (line_at r (λ a. a) line) (out rows.old cols.old vals.old at) (out rows.new cols.new vals.new result) }
+pub(crate) fn put_line(list: &mut Triplets<'_>, r: u32, line: Line)
+    requires { list.old.at + length (line_at r (λ a. a) line) < 2 ^ 64 }
+    ensures { Puts (line_at r (λ a. a) line) list.old list.new }
 {
     let s = line.first;
     let t = line.second;
-    let next = put_if(rows, cols, vals, at, s.on, r, s.col, s.val);
-    put_if(rows, cols, vals, next, t.on, r, t.col, t.val)
+    list.put_if(s.on, r, s.col, s.val);
+    list.put_if(t.on, r, t.col, t.val);
 }
 
 // The terms in row r, each times f.
-pub(crate) fn put_scaled(
-    rows: &mut [u32],
-    cols: &mut [u32],
-    vals: &mut [f64],
-    at: usize,
-    r: u32,
-    f: f64,
-    line: Line,
-) -> usize
-    requires { at + length (line_at r (mul binary64 f) line) < 2 ^ 64 }
-    ensures { Wrote (line_at r (mul binary64 f) line) (out rows.old cols.old vals.old at) (out rows.new cols.new vals.new result) }
+pub(crate) fn put_scaled(list: &mut Triplets<'_>, r: u32, f: f64, line: Line)
+    requires { list.old.at + length (line_at r (mul binary64 f) line) < 2 ^ 64 }
+    ensures { Puts (line_at r (mul binary64 f) line) list.old list.new }
 {
     let s = line.first;
     let t = line.second;
-    let next = put_if(rows, cols, vals, at, s.on, r, s.col, f * s.val);
-    put_if(rows, cols, vals, next, t.on, r, t.col, f * t.val)
+    list.put_if(s.on, r, s.col, f * s.val);
+    list.put_if(t.on, r, t.col, f * t.val);
 }
 
 fn add_term(x: &[f64], a: f64, t: Spot) -> f64
     requires { t.col < length x.now }
     ensures { result ≡ spot_sum x.now a t }
 {
-    let c = wide(t.col);
     if t.on {
-        return a + t.val * x[c];
+        return a + t.val * x[t.col as usize];
     }
     a
 }
@@ -69,48 +53,28 @@ pub(crate) fn slack(x: &[f64], line: Line) -> f64
 }
 
 // -z times the terms, and the slack on the diagonal.
-fn put_bound(
-    rows: &mut [u32],
-    cols: &mut [u32],
-    vals: &mut [f64],
-    at: usize,
-    nvar: u32,
-    line: Line,
-    x: &[f64],
-    z: &[f64],
-) -> usize
+fn put_bound(list: &mut Triplets<'_>, nvar: u32, line: Line, x: &[f64], z: &[f64])
     requires within { Within (length x.now) (length z.now) line }
     requires z_bound { nvar + length z.now < 2 ^ 32 }
-    requires line_bound { at + length (bound_line nvar x.now z.now line) < 2 ^ 64 }
-    ensures { Wrote (bound_line nvar x.now z.now line) (out rows.old cols.old vals.old at) (out rows.new cols.new vals.new result) }
+    requires line_bound { list.old.at + length (bound_line nvar x.now z.now line) < 2 ^ 64 }
+    ensures { Puts (bound_line nvar x.now z.now line) list.old list.new }
 {
-    let k = wide(line.row);
     let r = nvar + line.row;
-    let f = -z[k];
-    let next = put_scaled(rows, cols, vals, at, r, f, line);
-    put(rows, cols, vals, next, r, r, slack(x, line))
+    let f = -z[line.row as usize];
+    put_scaled(list, r, f, line);
+    list.put(r, r, slack(x, line));
 }
 
 // The row as it is, or as a row of the nonnegative cone.
-pub fn put_row(
-    rows: &mut [u32],
-    cols: &mut [u32],
-    vals: &mut [f64],
-    at: usize,
-    bound: bool,
-    nvar: u32,
-    line: Line,
-    x: &[f64],
-    z: &[f64],
-) -> usize
+pub fn put_row(list: &mut Triplets<'_>, bound: bool, nvar: u32, line: Line, x: &[f64], z: &[f64])
     requires within { Within (length x.now) (length z.now) line }
     requires z_bound { nvar + length z.now < 2 ^ 32 }
-    requires line_bound { at + length (line_in nvar x.now z.now bound line) < 2 ^ 64 }
-    ensures { Wrote (line_in nvar x.now z.now bound line) (out rows.old cols.old vals.old at) (out rows.new cols.new vals.new result) }
+    requires line_bound { list.old.at + length (line_in nvar x.now z.now bound line) < 2 ^ 64 }
+    ensures { Puts (line_in nvar x.now z.now bound line) list.old list.new }
 {
     if bound {
-        return put_bound(rows, cols, vals, at, nvar, line, x, z);
+        put_bound(list, nvar, line, x, z);
+    } else {
+        put_line(list, nvar + line.row, line);
     }
-    let r = nvar + line.row;
-    put_line(rows, cols, vals, at, r, line)
 }

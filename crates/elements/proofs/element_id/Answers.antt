@@ -1,26 +1,28 @@
--- `elements::element_id` meets its contract. Assumes nothing.
-use mathlib.Core.Path.{◌∙◌}
-use Rattle.refusals.proofs.Laws.{accepted-by, refused-by, or_else_accepted, test-held}
+-- The record check ends the entry, or the axis decides.
+use Rattle.std.proofs.Common.{sym, ap, ◌∙◌, Ok}
+use Rattle.refusals.proofs.Laws.{ends, answer_ended, answer_went_on, went_on, test-held}
 use Rattle.records.proofs.Laws.{accepted}
-use Rattle.elements.specs.Ids.{id_check}
-use mathlib.Core.Path.{◌≡◌}
-use Rattle.elements.proofs.Ids.{id_refused, id_passed}
 use Rattle.elements.proofs.element_id.Goals as goal
 
-pub returns-then-is_refused : goal.returns-then-is_refused
-returns-then-is_refused c =
-    let a = c.args in
-    let e : c.or_else-check.result ≡ id_check a.n a.m a.k a.s a.bytes.now a.axis a.index = cc in
-    c.id_if.ensures ∙ rw e (id_refused _ _ _ (refused-by e c.is_refused.ensures c.if-is_refused.true))
+pub returns-in_err-check_records : goal.returns-in_err-check_records
+returns-in_err-check_records c = answer_ended _ _ c.check_records.ensures c.from_residual.ensures.1 c.in_err-check_records.was
+
+pub returns-in_err-refuse_unless : goal.returns-in_err-refuse_unless
+returns-in_err-refuse_unless c =
+    let t = rw c.on_axis.ensures at c.refuse_unless.ensures in
+    answer_went_on _ _ c.check_records.ensures c.in_ok-check_records.was
+    (ends _ c.from_residual-in_err-refuse_unless.ensures.1 c.in_err-refuse_unless.was t)
 
 pub id_of-requires : goal.id_of-requires
 id_of-requires c =
-    let a = c.args in
-    let e : c.or_else-check.result ≡ id_check a.n a.m a.k a.s a.bytes.now a.axis a.index = cc in
-    let h = or_else_accepted _ _ (accepted-by e c.is_refused.ensures c.if-is_refused.false) in record { accepted = accepted _ _ _ _ _ h.0; i_value = test-held _ _ h.1 }
+    let t = rw c.on_axis.ensures at c.refuse_unless.ensures in
+    record {
+      accepted = accepted _ _ _ _ _ (sym c.check_records.ensures ∙ c.in_ok-check_records.was);
+      i_value = test-held _ _ (sym t ∙ c.in_ok-refuse_unless.was);
+    }
 
 pub returns : goal.returns
 returns c =
-    let a = c.args in
-    let e : c.or_else-check.result ≡ id_check a.n a.m a.k a.s a.bytes.now a.axis a.index = cc in
-    rw c.id_of.ensures (id_passed _ (accepted-by e c.is_refused.ensures c.if-is_refused.false))
+    let t = rw c.on_axis.ensures at c.refuse_unless.ensures in
+    answer_went_on _ _ c.check_records.ensures c.in_ok-check_records.was
+    (went_on t c.in_ok-refuse_unless.was (ap Ok c.id_of.ensures))

@@ -1,14 +1,13 @@
--- `entries::kkt_checked` meets its contract. Assumes nothing.
-use mathlib.Core.Path.{sym, ◌∙◌}
-use Rattle.refusals.proofs.Laws.{passed}
+-- 6 ends it, or the room decides.
+use Rattle.std.proofs.Common.{sym, ◌∙◌}
 use Rattle.entries.proofs.Answers.{given, stopped, went_on}
 use Rattle.entries.proofs.kkt_checked.Goals as goal
 
-pub returns-then-is_refused : goal.returns-then-is_refused
-returns-then-is_refused c = rw (← c.solution_cause-sizes.ensures) (stopped _ _ (sym c.is_refused.ensures ∙ c.if-is_refused.true) c.written_if.ensures)
+pub returns-in_err-solution_cause : goal.returns-in_err-solution_cause
+returns-in_err-solution_cause c = stopped _ (sym c.solution_cause.ensures ∙ c.in_err-solution_cause.was) c.from_residual.ensures.1
 
-pub kkt_sized-requires : goal.kkt_sized-requires
-kkt_sized-requires c = given c.requires (sym c.solution_cause-sizes.ensures ∙ passed _ (sym c.is_refused.ensures ∙ c.if-is_refused.false))
+pub invariant_of-p : goal.invariant_of-p
+invariant_of-p c = record { given = given c.args.net.now.laid (sym c.solution_cause.ensures ∙ c.in_ok-solution_cause.was) }
 
 pub returns : goal.returns
-returns c = went_on (sym c.solution_cause-sizes.ensures ∙ passed _ (sym c.is_refused.ensures ∙ c.if-is_refused.false)) c.kkt_sized.ensures
+returns c = went_on (sym c.solution_cause.ensures ∙ c.in_ok-solution_cause.was) c.kkt_written.ensures

@@ -1,5 +1,5 @@
 -- `entries::most` meets its contract. Assumes nothing.
-use native.Mathlib.Omega.{arith}
+use Rattle.std.proofs.Common.{arith}
 use Rattle.entries.proofs.most.Goals as goal
 
 pub overflow_mul-result : goal.overflow_mul-result

@@ -1,26 +1,22 @@
--- `input::first_row` meets its contract: 1, then 7 past the blocks, and else where the layout has the block start. Assumes nothing.
-use Rattle.std.proofs.lemmas.Bool.{lt-leb}
-use mathlib.Core.Path.{sym, ap, ◌∙◌}
-use native.Mathlib.Omega.{arith}
-use Rattle.numbering.specs.declared.Lookup.TheVariants.{Number}
+-- 1, then 7 past the blocks, and else the layout's own number.
+use Rattle.std.proofs.Common.{sym, ap, ◌∙◌, leb-true, Ok}
+use Rattle.refusals.proofs.Laws.{ends, went_on, test-held}
 use Rattle.numbering.proofs.Layouts.{in_range}
-use Rattle.numbering.proofs.Entered.{stopped-at, gone-on, answered}
-use Rattle.std.proofs.Common.{le-leb}
 use Rattle.input.proofs.first_row.Goals as goal
 
-pub returns-then-is_refused : goal.returns-then-is_refused
-returns-then-is_refused c =
-    stopped-at _ c.refused.ensures c.cause-cause.ensures (sym c.is_refused.ensures ∙ c.if-is_refused.true)
+pub returns-in_err-cause : goal.returns-in_err-cause
+returns-in_err-cause c = ends _ c.from_residual.ensures.1 c.in_err-cause.was c.cause.ensures
 
-pub returns-then-block-gt-ROW_BLOCKS : goal.returns-then-block-gt-ROW_BLOCKS
-returns-then-block-gt-ROW_BLOCKS c =
-    simp (lt-leb _ _ c.if-block-gt-ROW_BLOCKS.true) (answered _ (gone-on c.cause-cause.ensures (sym c.is_refused.ensures ∙ c.if-is_refused.false)))
+pub returns-in_err-refuse_unless : goal.returns-in_err-refuse_unless
+returns-in_err-refuse_unless c =
+    went_on c.cause.ensures c.in_ok-cause.was
+    (ends _ c.from_residual-in_err-refuse_unless.ensures.1 c.in_err-refuse_unless.was c.refuse_unless.ensures)
 
 pub row_start-requires : goal.row_start-requires
-row_start-requires c = record { in_range = in_range _ (gone-on c.cause-cause.ensures (sym c.is_refused.ensures ∙ c.if-is_refused.false)); block_le_row_many = omega arith }
+row_start-requires c =
+    let ok = in_range _ (sym c.cause.ensures ∙ c.in_ok-cause.was) in
+    let inside = leb-true _ _ (test-held _ _ (sym c.refuse_unless.ensures ∙ c.in_ok-refuse_unless.was)) in
+    record { in_range = ok; block_le_row_many = inside }
 
 pub returns : goal.returns
-returns c =
-    simp (le-leb _ _ c.if-block-gt-ROW_BLOCKS.false)
-    (ap Number c.row_start.ensures.value
-    ∙ answered _ (gone-on c.cause-cause.ensures (sym c.is_refused.ensures ∙ c.if-is_refused.false)))
+returns c = went_on c.cause.ensures c.in_ok-cause.was (went_on c.refuse_unless.ensures c.in_ok-refuse_unless.was (ap Ok c.row_start.ensures.value))

@@ -1,14 +1,11 @@
--- `input::layout_of` meets its contract. Assumes nothing.
-use Rattle.std.proofs.lemmas.Bool.{lt-leb}
-use Rattle.refusals.specs.Refusals.{refuse_unless, ◌or_else◌}
-use Rattle.numbering.specs.Lookups.{layout_answer}
-use Rattle.std.proofs.Common.{le-leb}
+-- 13, or else the layout of the counts found.
+use Rattle.refusals.proofs.Laws.{answer_ended, answer_went_on}
 use Rattle.input.proofs.layout_of.Goals as goal
 
-pub returns-then-b-gt65536 : goal.returns-then-b-gt65536
-unfolding layout_answer ◌or_else◌ refuse_unless
-returns-then-b-gt65536 c = simp (lt-leb _ _ c.if-b-gt65536.true)
+pub returns-in_err-refuse_unless : goal.returns-in_err-refuse_unless
+returns-in_err-refuse_unless c = answer_ended _ _ c.refuse_unless.ensures c.from_residual.ensures.1 c.in_err-refuse_unless.was
 
 pub returns : goal.returns
-unfolding ◌or_else◌ refuse_unless
-returns c = let e = c.counts_in-c.ensures in simp (le-leb _ _ c.if-b-gt65536.false) (rw (e.n, e.m, e.k, e.s) at c.new.ensures)
+returns c =
+    let e = c.counts_in-c.ensures in
+    answer_went_on _ _ c.refuse_unless.ensures c.in_ok-refuse_unless.was (rw (e.n, e.m, e.k, e.s) at c.new.ensures)

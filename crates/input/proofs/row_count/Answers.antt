@@ -1,25 +1,22 @@
--- `input::row_count` meets its contract: 1, then 7 past the blocks, and else the rows that the layout has in the block. Assumes nothing.
-use mathlib.Core.Path.{sym, ap, ◌∙◌}
-use native.Mathlib.Omega.{arith}
-use Rattle.numbering.specs.declared.Lookup.TheVariants.{Number}
+-- 1, then 7 past the blocks, and else the layout's own number.
+use Rattle.std.proofs.Common.{sym, ap, ◌∙◌, ltb-true, Ok}
+use Rattle.refusals.proofs.Laws.{ends, went_on, test-held}
 use Rattle.numbering.proofs.Layouts.{in_range}
-use Rattle.numbering.proofs.Entered.{stopped-at, gone-on, answered}
-use Rattle.std.proofs.Common.{le-ltb, lt-ltb}
 use Rattle.input.proofs.row_count.Goals as goal
 
-pub returns-then-is_refused : goal.returns-then-is_refused
-returns-then-is_refused c =
-    stopped-at _ c.refused.ensures c.cause-cause.ensures (sym c.is_refused.ensures ∙ c.if-is_refused.true)
+pub returns-in_err-cause : goal.returns-in_err-cause
+returns-in_err-cause c = ends _ c.from_residual.ensures.1 c.in_err-cause.was c.cause.ensures
 
-pub returns-then-block-ge-ROW_BLOCKS : goal.returns-then-block-ge-ROW_BLOCKS
-returns-then-block-ge-ROW_BLOCKS c =
-    simp (le-ltb _ _ c.if-block-ge-ROW_BLOCKS.true) (answered _ (gone-on c.cause-cause.ensures (sym c.is_refused.ensures ∙ c.if-is_refused.false)))
+pub returns-in_err-refuse_unless : goal.returns-in_err-refuse_unless
+returns-in_err-refuse_unless c =
+    went_on c.cause.ensures c.in_ok-cause.was
+    (ends _ c.from_residual-in_err-refuse_unless.ensures.1 c.in_err-refuse_unless.was c.refuse_unless.ensures)
 
 pub row_size-requires : goal.row_size-requires
-row_size-requires c = record { in_range = in_range _ (gone-on c.cause-cause.ensures (sym c.is_refused.ensures ∙ c.if-is_refused.false)); block_lt_row_many = omega arith }
+row_size-requires c =
+    let ok = in_range _ (sym c.cause.ensures ∙ c.in_ok-cause.was) in
+    let inside = ltb-true _ _ (test-held _ _ (sym c.refuse_unless.ensures ∙ c.in_ok-refuse_unless.was)) in
+    record { in_range = ok; block_lt_row_many = inside }
 
 pub returns : goal.returns
-returns c =
-    simp (lt-ltb _ _ c.if-block-ge-ROW_BLOCKS.false)
-    (ap Number c.row_size.ensures
-    ∙ answered _ (gone-on c.cause-cause.ensures (sym c.is_refused.ensures ∙ c.if-is_refused.false)))
+returns c = went_on c.cause.ensures c.in_ok-cause.was (went_on c.refuse_unless.ensures c.in_ok-refuse_unless.was (ap Ok c.row_size.ensures))

@@ -9,7 +9,6 @@ ghost use Rattle.lines.specs.Line.{ends_line as ends_of, thermal as thermal_of, 
 use super::{line, single, spot};
 use crate::{Cone, Line};
 use bounds::inner::rating;
-use lists::inner::wide;
 use numbering::SocWrLayout;
 use records::inner::{br_from, br_to};
 
@@ -17,16 +16,12 @@ use records::inner::{br_from, br_to};
 pub fn line_of(c: Cone, l: usize) -> Line
     ensures { result ≡ cone_line c l }
 {
-    if l == 0 {
-        return c.a;
+    match l {
+        0 => c.a,
+        1 => c.b,
+        2 => c.c,
+        _ => c.d,
     }
-    if l == 1 {
-        return c.b;
-    }
-    if l == 2 {
-        return c.c;
-    }
-    c.d
 }
 
 // -0.5 at the from bus and v at the to bus, the smaller number first.
@@ -36,8 +31,8 @@ fn ends(l: SocWrLayout, bytes: &[u8], e: usize, row: u32, v: f64) -> Line
     ensures { result ≡ ends_of l ((net_of l bytes.now).from e) ((net_of l bytes.now).to e) row v }
 {
     let r = l.n + e;
-    let from = wide(br_from(bytes, r));
-    let to = wide(br_to(bytes, r));
+    let from = br_from(bytes, r) as usize;
+    let to = br_to(bytes, r) as usize;
     let a = spot(true, l.w_column(from), -0.5);
     let b = spot(true, l.w_column(to), v);
     if from < to {
@@ -69,6 +64,7 @@ fn thermal(first: u32, second: u32, third: u32, rate: f64, p: u32, q: u32) -> Co
 }
 
 // The cone at the from end of a limited branch; so many limited branches are before it.
+// Kept: the to end has other rows and other flows, so one function would match on the end five times.
 pub fn thermal_from(l: SocWrLayout, bytes: &[u8], e: usize, limits: usize) -> Cone
     requires laid { Laid l bytes.now }
     requires e_lt_m { (e < l.m) × ((net_of l bytes.now).limited e ≡ true) × (limits ≡ count e (net_of l bytes.now).limited) }

@@ -111,10 +111,8 @@ pub fn start_of(sizes: &[usize], block: usize) -> usize
     ensures upper_bound { result ≤ 1114112 }
 {
     let mut start = 0;
-    let mut j = 0;
-    while j < block {
+    for j in 0..block {
         start += sizes[j];
-        j += 1;
     }
     start
 }
@@ -125,9 +123,8 @@ pub fn block_of(sizes: &[usize], p: usize) -> Place
     ensures in_block { InBlock sizes.now p result }
     ensures item_in_bounds { result.item < length sizes.now }
 {
-    let mut block = 0;
     let mut rest = p;
-    loop {
+    for block in 0..sizes.len() {
         let here = sizes[block];
         if rest < here {
             return Place {
@@ -136,6 +133,6 @@ pub fn block_of(sizes: &[usize], p: usize) -> Place
             };
         }
         rest -= here;
-        block += 1;
     }
+    unreachable!()
 }

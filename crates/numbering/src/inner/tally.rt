@@ -24,10 +24,8 @@ pub fn tally(b: &[u8], t: Tally, first: usize, i: usize) -> usize
     ensures { result ≡ tally_of t b.now first i }
 {
     let mut sum = 0;
-    let mut j = 0;
-    while j < i {
+    for j in 0..i {
         sum += points(b, t, first + j);
-        j += 1;
     }
     sum
 }
@@ -37,14 +35,13 @@ pub fn locate(b: &[u8], t: Tally, first: usize, count: usize, p: usize) -> Place
     requires { (128 * (first + count) ≤ length b.now) × (p < tally_of t b.now first count) }
     ensures { Located t b.now first count p result }
 {
-    let mut i = 0;
     let mut rest = p;
-    loop {
+    for i in 0..count {
         let here = points(b, t, first + i);
         if rest < here {
             return Place { item: i, at: rest };
         }
         rest -= here;
-        i += 1;
     }
+    unreachable!()
 }

@@ -1,22 +1,31 @@
--- `operands::operand_selector` meets its contract: one pass gives the record check and the layout; then the selector of that layout. Assumes nothing.
-use Rattle.refusals.proofs.Laws.{accepted-by, refused-by}
-use Rattle.numbering.proofs.OnePass.{pass-layout, pass-laid}
-use Rattle.refusals.proofs.Entry.{left-first, then-second}
-use Rattle.interface.proofs.Selectors.{selected-first}
+-- The record check ends the entry, or the selector of the network's layout decides.
+use Rattle.std.proofs.Common.{refl}
+use Rattle.refusals.proofs.Laws.{refused_by, answer_ended, answer_went_on, left_ended, left_went_on}
+use Rattle.numbering.proofs.OnePass.{new-check, new-layout, new-laid}
 use Rattle.operands.proofs.operand_selector.Goals as goal
 
-pub returns-then-is_refused : goal.returns-then-is_refused
-returns-then-is_refused c =
-    let p = c.check_layout-checked.ensures.check in
-    let h = refused-by p c.is_refused.ensures c.if-is_refused.true in record { value = selected-first _ _ 0 _ _ _ h (rw p at c.selected_if.ensures); starts_after = left-first _ _ _ _ h; rows_after = left-first _ _ _ _ h; weights_after = left-first _ _ _ _ h; elements_after = left-first _ _ _ _ h }
+pub returns-in_err-layout : goal.returns-in_err-layout
+returns-in_err-layout c =
+    let h = refused_by _ _ c.new.ensures c.in_err-layout.was in
+    record {
+      value = answer_ended _ _ refl c.from_residual.ensures.1 h;
+      starts_after = left_ended refl _ _ _ h;
+      rows_after = left_ended refl _ _ _ h;
+      weights_after = left_ended refl _ _ _ h;
+      elements_after = left_ended refl _ _ _ h;
+    }
 
 pub selector_of-requires : goal.selector_of-requires
-selector_of-requires c =
-    let p = c.check_layout-checked.ensures in
-    pass-laid p (accepted-by p.check c.is_refused.ensures c.if-is_refused.false)
+selector_of-requires c = new-laid _ _ _ _ _ c.new.ensures c.in_ok-layout.was
 
 pub returns : goal.returns
 returns c =
-    let p = c.check_layout-checked.ensures in
-    let h = accepted-by p.check c.is_refused.ensures c.if-is_refused.false in
-    let e = rw (pass-layout p h) at c.selector_of.ensures in record { value = rw (← then-second _ _ h) e.value; starts_after = rw (← then-second _ _ h) e.starts_after; rows_after = rw (← then-second _ _ h) e.rows_after; weights_after = rw (← then-second _ _ h) e.weights_after; elements_after = rw (← then-second _ _ h) e.elements_after }
+    let h = new-check _ _ _ _ _ c.new.ensures c.in_ok-layout.was in
+    let e = rw (new-layout _ _ _ _ _ c.new.ensures c.in_ok-layout.was) at c.selector_of.ensures in
+    record {
+      value = answer_went_on _ _ refl h e.value;
+      starts_after = left_went_on refl _ _ _ h e.starts_after;
+      rows_after = left_went_on refl _ _ _ h e.rows_after;
+      weights_after = left_went_on refl _ _ _ h e.weights_after;
+      elements_after = left_went_on refl _ _ _ h e.elements_after;
+    }

@@ -1,8 +1,8 @@
 // The selector of an operand.
 ghost use Rattle.std.specs.Prelude.{◌≡◌, true, ◌+◌, ◌≤◌, length};
 ghost use Rattle.lists.specs.UpTo.{listed, overlay};
-ghost use Rattle.refusals.specs.Refusals.{left_in};
-ghost use Rattle.interface.specs.Selectors.{unit_starts, unit_weights, selected_if};
+ghost use Rattle.refusals.specs.Refusals.{answer_if, left_in};
+ghost use Rattle.interface.specs.Selectors.{unit_starts, unit_weights, items_of};
 ghost use Rattle.numbering.specs.Layout.{InRange, layout_column};
 ghost use Rattle.numbering.specs.Laid.{net_of, Laid};
 ghost use Rattle.elements.specs.Lengths.{has_operand, operand_len};
@@ -10,22 +10,10 @@ ghost use Rattle.operands.specs.Selector.{dispatch_column, flow_of, voltage_at, 
 
 use elements::inner::lengths::{has_operand, operand_count};
 use elements::inner::power::balance_row;
-use interface::inner::{count_up, selected_if, selector_room, unit_items};
-use interface::{End, Operand, Power, Selected, VoltageKind};
+use interface::inner::{count_from, selector_room, unit_items};
+use interface::{End, Items, Operand, Power, VoltageKind};
 use numbering::SocWrLayout;
-use refusals::{Checked, Refusal, is_refused, or_else, refuse_unless};
-
-// base, base + 1, .., n of them.
-fn count_from(d: &mut [u32], n: usize, base: u32)
-    requires { (n ≤ length d.old) × (n ≤ 131072) × (base ≤ 131072) }
-    ensures { d.new ≡ overlay (listed n (λ j. base + j)) d.old }
-{
-    let mut at = base;
-    for j in 0..n {
-        d[j] = at;
-        at += 1;
-    }
-}
+use refusals::{Refusal, refuse_unless};
 
 fn price_first(l: SocWrLayout, bytes: &[u8], power: Power) -> u32
     requires { Laid l bytes.now }
@@ -44,33 +32,15 @@ fn dispatch_first(l: SocWrLayout, power: Power) -> u32
     }
 }
 
-fn active_first(l: SocWrLayout, end: End) -> u32
-    requires { InRange l }
-    ensures { result ≡ layout_column l (flow_of Power.Active end 0) }
-{
-    match end {
-        End::From => l.pf_column(0),
-        End::To => l.pt_column(0),
-    }
-}
-
-fn reactive_first(l: SocWrLayout, end: End) -> u32
-    requires { InRange l }
-    ensures { result ≡ layout_column l (flow_of Power.Reactive end 0) }
-{
-    match end {
-        End::From => l.qf_column(0),
-        End::To => l.qt_column(0),
-    }
-}
-
 fn flow_first(l: SocWrLayout, power: Power, end: End) -> u32
     requires { InRange l }
     ensures { result ≡ layout_column l (flow_of power end 0) }
 {
-    match power {
-        Power::Active => active_first(l, end),
-        Power::Reactive => reactive_first(l, end),
+    match (power, end) {
+        (Power::Active, End::From) => l.pf_column(0),
+        (Power::Active, End::To) => l.pt_column(0),
+        (Power::Reactive, End::From) => l.qf_column(0),
+        (Power::Reactive, End::To) => l.qt_column(0),
     }
 }
 
@@ -128,15 +98,13 @@ fn operand_cause(
     rows: usize,
     weights: usize,
     elements: usize,
-) -> Checked
+) -> Result<(), Refusal>
     requires { InRange l }
     ensures { result ≡ operand_cause l.n l.m l.k o starts rows weights elements }
 {
     let items = operand_count(l.n, l.m, l.k, o);
-    or_else(
-        refuse_unless(has_operand(o), Refusal::NotInSocWr),
-        selector_room(items, starts, rows, weights, elements),
-    )
+    refuse_unless(has_operand(o), Refusal::NotInSocWr)?;
+    selector_room(items, starts, rows, weights, elements)
 }
 
 // The selector on the layout of accepted records.
@@ -148,27 +116,24 @@ pub fn selector_of(
     rows: &mut [u32],
     weights: &mut [f64],
     elements: &mut [u32],
-) -> Selected
+) -> Result<Items, Refusal>
     requires { Laid l bytes.now }
-    ensures value { result ≡ selected_if (operand_cause l.n l.m l.k o (length starts.old) (length rows.old) (length weights.old) (length elements.old)) (operand_len l.n l.m l.k o) (selector_sign o) }
+    ensures value { result ≡ answer_if (operand_cause l.n l.m l.k o (length starts.old) (length rows.old) (length weights.old) (length elements.old)) (items_of (operand_len l.n l.m l.k o) (selector_sign o)) }
     ensures starts_after { starts.new ≡ left_in (operand_cause l.n l.m l.k o (length starts.old) (length rows.old) (length weights.old) (length elements.old)) (unit_starts (operand_len l.n l.m l.k o)) starts.old }
     ensures rows_after { rows.new ≡ left_in (operand_cause l.n l.m l.k o (length starts.old) (length rows.old) (length weights.old) (length elements.old)) (selector_rows (net_of l bytes.now) o) rows.old }
     ensures weights_after { weights.new ≡ left_in (operand_cause l.n l.m l.k o (length starts.old) (length rows.old) (length weights.old) (length elements.old)) (unit_weights (operand_len l.n l.m l.k o)) weights.old }
     ensures elements_after { elements.new ≡ left_in (operand_cause l.n l.m l.k o (length starts.old) (length rows.old) (length weights.old) (length elements.old)) (selector_elements (operand_len l.n l.m l.k o)) elements.old }
 {
-    let check = operand_cause(
+    operand_cause(
         l,
         o,
         starts.len(),
         rows.len(),
         weights.len(),
         elements.len(),
-    );
-    if is_refused(check) {
-        return selected_if(check, 0, 0.0);
-    }
+    )?;
     let items = operand_count(l.n, l.m, l.k, o);
     write_rows(l, bytes, o, rows);
-    count_up(elements, items);
-    unit_items(items, sign(o), starts, weights)
+    count_from(elements, items, 0);
+    Ok(unit_items(items, sign(o), starts, weights))
 }

@@ -17,12 +17,9 @@ fn fill_costs(out: &mut [f64], l: SocWrLayout, bytes: &[u8])
     requires l_in_bounds { nvar_of l ≤ length out.old }
     ensures { Filled (listed l.k (linear_cost l bytes.now)) out.old (layout_column l (Pg 0)) out.new }
 {
-    let k = l.k;
     let pg = l.pg_column(0) as usize;
-    let mut g = 0;
-    while g < k {
+    for g in 0..l.k {
         out[pg + g] = 0.0 + records::inner::cl(bytes, l.n + l.m + g);
-        g += 1;
     }
 }
 

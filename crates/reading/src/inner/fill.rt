@@ -9,11 +9,8 @@ fn negate(z: &[f64], out: &mut [f64])
     requires { length out.old ≤ length z.now }
     ensures { out.new ≡ listed (length out.old) (λ i. neg (get_or z.now i nan)) }
 {
-    let n = out.len();
-    let mut i = 0;
-    while i < n {
+    for i in 0..out.len() {
         out[i] = -z[i];
-        i += 1;
     }
 }
 

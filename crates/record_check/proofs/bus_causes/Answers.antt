@@ -1,20 +1,20 @@
--- `record_check::bus_causes` meets its contract. Assumes nothing.
-use Prim.Native.Nat.{◌-◌}
-use mathlib.Core.Path.{◌≡◌, sym}
-use native.Mathlib.Omega.{arith}
+-- The first record that has a cause ends the loop with it.
+use Rattle.std.proofs.Common.{◌≡◌, sym, ◌∙◌, arith}
+use Rattle.refusals.proofs.Laws.{leaves}
 use Rattle.records.proofs.Causes.{first-none, first_more, first_found}
 use Rattle.record_check.proofs.bus_causes.Goals as goal
 
 pub loop-i-init : goal.loop-i-init
-loop-i-init c = (omega arith, first-none _ _)
+loop-i-init c = first-none _ _
 
-pub returns-then-is_refused : goal.returns-then-is_refused
-returns-then-is_refused c = first_found _ _ _ c.loop-i.invariant.1 c.bus_cause-c.ensures c.is_refused.ensures _ (omega arith) c.if-is_refused.true
+pub returns-in_err-bus_cause : goal.returns-in_err-bus_cause
+returns-in_err-bus_cause c =
+    leaves c.from_residual.ensures.1 ∙ sym (first_found _ _ _ c.loop-i.invariant c.bus_cause.ensures _ (omega arith) c.in_err-bus_cause.was)
 
 pub loop-i-preserved : goal.loop-i-preserved
-loop-i-preserved c = (omega arith, first_more _ _ _ c.loop-i.invariant.1 c.bus_cause-c.ensures c.is_refused.ensures c.if-is_refused.false)
+loop-i-preserved c = first_more _ _ _ c.loop-i.invariant c.bus_cause.ensures c.in_ok-bus_cause.was
 
 pub returns : goal.returns
 returns c =
     let e : c.loop-i.i ≡ c.args.count = omega arith in
-    rw (← e) (sym c.loop-i.invariant.1)
+    rw (← e) (sym c.loop-i.invariant)

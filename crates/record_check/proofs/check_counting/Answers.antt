@@ -1,21 +1,22 @@
--- `record_check::check_counting` meets its contract. Assumes nothing.
-use Rattle.refusals.proofs.Laws.{accepted-by}
+-- A count ends the check, or what is left of it decides.
+use Rattle.std.proofs.Common.{refl, sym, ◌∙◌, arith}
 use Rattle.records.specs.Check.{check_of}
 use Rattle.records.proofs.Causes.{counts_in_range}
-use Rattle.record_check.proofs.Passed.{counts-stopped, counts-went_on}
+use Rattle.refusals.proofs.Laws.{ends, went_on, or_else_assoc}
+use Rattle.record_check.proofs.Parts.{least}
 use Rattle.record_check.proofs.check_counting.Goals as goal
 
-pub returns-then-is_refused : goal.returns-then-is_refused
+pub returns-in_err-count_cause : goal.returns-in_err-count_cause
 unfolding check_of
-returns-then-is_refused c = counts-stopped _ _ _ _ _ _ c.count_cause-counts.ensures c.is_refused.ensures c.if-is_refused.true c.counts_if.ensures
+returns-in_err-count_cause c = ends _ c.from_residual.ensures.1 c.in_err-count_cause.was c.count_cause.ensures ∙ sym (or_else_assoc _ _ _)
 
 pub check_counted-requires : goal.check_counted-requires
 check_counted-requires c =
-    let few = counts_in_range _ _ _ _ (accepted-by c.count_cause-counts.ensures c.is_refused.ensures c.if-is_refused.false) in
-    (few.0, few.1, few.2, few.3, c.least.ensures.upper_bound)
+    let b = counts_in_range _ _ _ _ (sym c.count_cause.ensures ∙ c.in_ok-count_cause.was) in
+    (b.0, b.1, b.2, b.3, omega (arith, c.min.ensures ∙ least c.args.e c.args.m))
 
 pub returns : goal.returns
 unfolding check_of
 returns c =
-    counts-went_on (accepted-by c.count_cause-counts.ensures c.is_refused.ensures c.if-is_refused.false)
-    (rw c.least.ensures.value at c.check_counted.ensures)
+    went_on c.count_cause.ensures c.in_ok-count_cause.was (c.check_counted.ensures ∙ rw (c.min.ensures, least c.args.e c.args.m) refl)
+    ∙ sym (or_else_assoc _ _ _)

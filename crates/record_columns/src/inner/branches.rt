@@ -16,7 +16,7 @@ use branch::inner::ohm::{wi_products, wr_products};
 use branch::inner::places::{end_bus, ohm_row};
 use branch::inner::{conic_angle_bound_active, series};
 use cells::inner::{put, put_if, put_nonzero};
-use lists::inner::{bit, store_u32};
+use lists::inner::store;
 use numbering::SocWrLayout;
 use rows::OhmRow;
 
@@ -116,6 +116,7 @@ fn put_wi(
     put(rows, vals, a2, cone, -1.0)
 }
 
+// Kept: put_wrs, put_wis and put_qgs share four lines; one loop for them would take the writer as a closure with a contract longer than those.
 pub fn put_wrs(
     starts: &mut [u32],
     rows: &mut [u32],
@@ -129,14 +130,11 @@ pub fn put_wrs(
     ensures columns { Columns (listed l.m (wr_cells (net_of l bytes.now))) (layout_column l (Wr 0)) starts.old (cell_out rows.old vals.old at) starts.new (cell_out rows.new vals.new result) }
     ensures upper_bound { result ≤ at + 7 * l.m }
 {
-    let m = l.m;
     let col = l.wr_column(0) as usize;
     let mut next = at;
-    let mut e = 0;
-    while e < m {
+    for e in 0..l.m {
         next = put_wr(rows, vals, next, l, bytes, e);
-        store_u32(starts, col + e + 1, next as u32);
-        e += 1;
+        store(starts, col + e + 1, next as u32);
     }
     next
 }
@@ -154,14 +152,11 @@ pub fn put_wis(
     ensures columns { Columns (listed l.m (wi_cells (net_of l bytes.now))) (layout_column l (Wi 0)) starts.old (cell_out rows.old vals.old at) starts.new (cell_out rows.new vals.new result) }
     ensures upper_bound { result ≤ at + 7 * l.m }
 {
-    let m = l.m;
     let col = l.wi_column(0) as usize;
     let mut next = at;
-    let mut e = 0;
-    while e < m {
+    for e in 0..l.m {
         next = put_wi(rows, vals, next, l, bytes, e);
-        store_u32(starts, col + e + 1, next as u32);
-        e += 1;
+        store(starts, col + e + 1, next as u32);
     }
     next
 }
@@ -251,15 +246,12 @@ pub fn put_flows(
     ensures columns { Columns (listed l.m (flow_cells (net_of l bytes.now) q)) col starts.old (cell_out rows.old vals.old at) starts.new (cell_out rows.new vals.new result) }
     ensures upper_bound { result ≤ at + 3 * l.m }
 {
-    let m = l.m;
     let mut next = at;
     let mut rank = 0;
-    let mut e = 0;
-    while e < m {
+    for e in 0..l.m {
         next = put_flow(rows, vals, next, l, bytes, q, e, rank);
-        store_u32(starts, col + e + 1, next as u32);
-        rank += bit(records::inner::thermal_limit_active(bytes, l.n + e));
-        e += 1;
+        store(starts, col + e + 1, next as u32);
+        rank += usize::from(records::inner::thermal_limit_active(bytes, l.n + e));
     }
     next
 }

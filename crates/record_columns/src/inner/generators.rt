@@ -10,7 +10,7 @@ ghost use Rattle.numbering.specs.Laid.{net_of, Laid};
 ghost use Rattle.numbering.specs.declared.ColumnName.TheVariants.{Pg, Qg, CostOf};
 
 use cells::inner::{put, put_nonzero};
-use lists::inner::{bit, store_u32};
+use lists::inner::store;
 use numbering::SocWrLayout;
 
 // The rows of an upper and a lower bound, where they are active.
@@ -49,16 +49,15 @@ fn put_slopes(
     ensures upper_bound { result ≤ at + count }
 {
     let mut next = at;
-    let mut t = 0;
-    while t < count {
+    for t in 0..count {
         let v = records::inner::slope(bytes, first + t);
         next = put_nonzero(rows, vals, next, (row + t) as u32, v);
-        t += 1;
     }
     next
 }
 
 // A generator's balance row and bounds: active, and reactive.
+// Kept: the two differ in three rows and their specs; a parameter for the power would be matched at each of these.
 fn put_pg_head(
     rows: &mut [u32],
     vals: &mut [f64],
@@ -142,18 +141,15 @@ pub fn put_pgs(
     ensures columns { Columns (listed l.k (pg_cells (net_of l bytes.now))) (layout_column l (Pg 0)) starts.old (cell_out rows.old vals.old at) starts.new (cell_out rows.new vals.new result) }
     ensures upper_bound { result ≤ 3 * l.k + l.s }
 {
-    let k = l.k;
     let first = l.n + l.m;
     let col = l.pg_column(0) as usize;
     let mut next = at;
     let mut seg = 0;
-    let mut g = 0;
-    while g < k {
+    for g in 0..l.k {
         let count = records::inner::segments(bytes, first + g);
         next = put_pg(rows, vals, next, l, bytes, g, seg, count);
-        store_u32(starts, col + g + 1, next as u32);
+        store(starts, col + g + 1, next as u32);
         seg += count;
-        g += 1;
     }
     next
 }
@@ -172,14 +168,11 @@ pub fn put_qgs(
     ensures columns { Columns (listed l.k (qg_cells (net_of l bytes.now))) (layout_column l (Qg 0)) starts.old (cell_out rows.old vals.old at) starts.new (cell_out rows.new vals.new result) }
     ensures upper_bound { result ≤ at + 3 * l.k }
 {
-    let k = l.k;
     let col = l.qg_column(0) as usize;
     let mut next = at;
-    let mut g = 0;
-    while g < k {
+    for g in 0..l.k {
         next = put_qg(rows, vals, next, l, bytes, g);
-        store_u32(starts, col + g + 1, next as u32);
-        g += 1;
+        store(starts, col + g + 1, next as u32);
     }
     next
 }
@@ -191,10 +184,8 @@ fn put_ones(rows: &mut [u32], vals: &mut [f64], at: usize, row: usize, count: us
     ensures upper_bound { result ≤ at + count }
 {
     let mut next = at;
-    let mut t = 0;
-    while t < count {
+    for t in 0..count {
         next = put(rows, vals, next, (row + t) as u32, -1.0);
-        t += 1;
     }
     next
 }
@@ -217,7 +208,7 @@ fn put_cost(
 {
     if on {
         let next = put_ones(rows, vals, at, row, count);
-        store_u32(starts, c + 1, next as u32);
+        store(starts, c + 1, next as u32);
         return next;
     }
     at
@@ -237,20 +228,17 @@ pub fn put_costs(
     ensures columns { Columns (each l.k (cost_turn (net_of l bytes.now))) (layout_column l (CostOf 0)) starts.old (cell_out rows.old vals.old at) starts.new (cell_out rows.new vals.new result) }
     ensures upper_bound { result ≤ at + l.s }
 {
-    let k = l.k;
     let base = l.segment_row(0) as usize;
     let mut c = l.cost_column(0) as usize;
     let mut next = at;
     let mut seg = 0;
-    let mut g = 0;
-    while g < k {
+    for g in 0..l.k {
         let r = l.n + l.m + g;
         let on = records::inner::piecewise(bytes, r);
         let count = records::inner::segments(bytes, r);
         next = put_cost(starts, rows, vals, c, next, on, base + seg, count);
-        c += bit(on);
+        c += usize::from(on);
         seg += count;
-        g += 1;
     }
     next
 }

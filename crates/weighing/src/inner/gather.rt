@@ -41,15 +41,6 @@ fn scan(
     m
 }
 
-fn lesser(a: usize, b: usize) -> usize
-    ensures { result ≡ min a b }
-{
-    if a < b {
-        return a;
-    }
-    b
-}
-
 // Where a walk along a column stopped: at the row next, with count cells in the buffer.
 #[derive(Clone, Copy)]
 pub(crate) struct Scanned {
@@ -72,14 +63,12 @@ fn gather(
 {
     let mut m = n;
     let mut r = first;
+    // Kept: how far a turn goes hangs on what the one before put into the buffer.
     loop {
-        let past = lesser(dim, r + (512 - m));
+        let past = dim.min(r + (512 - m));
         m = scan(rhs, base, r, past, rows, values, m);
         r = past;
-        if r == dim {
-            return Scanned { count: m, next: r };
-        }
-        if m == 512 {
+        if r == dim || m == 512 {
             return Scanned { count: m, next: r };
         }
     }
@@ -96,12 +85,7 @@ pub struct Buffered {
 fn stops(s: usize, n: usize, c: usize, columns: usize) -> bool
     ensures { result ≡ false → (s < 8) × (n < 512) × (c < columns) }
 {
-    if s < 8 {
-        if n < 512 {
-            return columns <= c;
-        }
-    }
-    true
+    s >= 8 || n >= 512 || columns <= c
 }
 
 // The walk goes on from row `row` of column `column`: a segment for each column, until the buffer is full.
@@ -125,6 +109,7 @@ pub fn fill(
     let mut s = 0;
     let mut n = 0;
     starts[0] = 0;
+    // Kept: a turn may stop within a column, and only the turn tells.
     loop {
         let got = gather(rhs, base, r, dim, rows, values, n);
         n = got.count;

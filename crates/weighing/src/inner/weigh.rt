@@ -6,8 +6,6 @@ ghost use Rattle.sparse.specs.Checks.{most_dim};
 ghost use Rattle.weighing.specs.Weighing.{weighed};
 ghost use Rattle.weighing.specs.Passes.{place, Below, Spread, Passed, weighed_at, Segments};
 
-use lists::inner::wide;
-
 #[derive(Clone, Copy)]
 pub(crate) struct Two {
     pub(crate) a: f64,
@@ -29,11 +27,10 @@ fn weigh_one(
     requires by_index { (j : ℕ) → j < past → get_or rows.now j 0 < dim }
     ensures { result ≡ weighed x.now base (segment rows.now weights.now first past) a }
 {
-    let count = past - first;
     let mut sum = a;
-    for k in 0..count {
-        let at = base + wide(rows[first + k]);
-        sum = sum + weights[first + k] * x[at];
+    for (row, weight) in rows[first..past].iter().zip(&weights[first..past]) {
+        let at = base + *row as usize;
+        sum += *weight * x[at];
     }
     sum
 }
@@ -55,18 +52,14 @@ fn weigh_two(
     ensures a_value { result.a ≡ weighed x.now base (segment rows.now weights.now first past) start.a }
     ensures b_value { result.b ≡ weighed x.now other (segment rows.now weights.now first past) start.b }
 {
-    let count = past - first;
-    let mut a = start.a;
-    let mut b = start.b;
-    for k in 0..count {
-        let row = wide(rows[first + k]);
-        let weight = weights[first + k];
-        let here = base + row;
-        let there = other + row;
-        a = a + weight * x[here];
-        b = b + weight * x[there];
+    let Two { mut a, mut b } = start;
+    for (row, weight) in rows[first..past].iter().zip(&weights[first..past]) {
+        let here = base + *row as usize;
+        let there = other + *row as usize;
+        a += *weight * x[here];
+        b += *weight * x[there];
     }
-    Two { a: a, b: b }
+    Two { a, b }
 }
 
 // One dense column: segment s at at + s * across.
@@ -86,9 +79,10 @@ fn pass_one(
     ensures { Passed (place at 0 across) (Below 1 segments) (weighed_at x.now base dim starts.now rows.now weights.now) out.old out.new }
 {
     let mut p = at;
+    // Kept: a segment is read from two neighbours of starts, and p steps by across.
     for s in 0..segments {
-        let first = wide(starts[s]);
-        let past = wide(starts[s + 1]);
+        let first = starts[s] as usize;
+        let past = starts[s + 1] as usize;
         let v = weigh_one(x, base, dim, rows, weights, first, past, out[p]);
         out[p] = v;
         p += across;
@@ -116,9 +110,10 @@ fn pass_two(
     let other = base + dim;
     let mut p = at;
     let mut q = at + dense;
+    // Kept: as in pass_one.
     for s in 0..segments {
-        let first = wide(starts[s]);
-        let past = wide(starts[s + 1]);
+        let first = starts[s] as usize;
+        let past = starts[s + 1] as usize;
         let start = Two {
             a: out[p],
             b: out[q],
@@ -152,6 +147,7 @@ pub fn weigh_all(
     let mut here = at;
     let mut base = 0;
     let mut d = 0;
+    // Kept: two columns a turn and then the one that is left, which d tells.
     while d + 1 < count {
         pass_two(
             out, here, dense, across, x, base, dim, starts, segments, rows, weights,

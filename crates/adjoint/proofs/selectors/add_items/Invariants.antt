@@ -1,6 +1,4 @@
-use Prim.Native.Nat.{◌*◌, ◌≤◌, ◌-◌}
-use mathlib.Core.Path.{◌≡◌}
-use lib.ListN.{length}
+use Rattle.std.proofs.Common.{◌*◌, ◌≤◌, ◌-◌, ◌≡◌, length}
 use Rattle.lists.specs.Steps.{turns}
 use Rattle.adjoint.specs.Selectors.{add_item}
 use Rattle.adjoint.proofs.selectors.add_items.Given as goal

@@ -1,39 +1,45 @@
-use Prim.Native.Nat.{◌+◌, ◌-◌}
-use mathlib.Core.Path.{◌≡◌, refl}
-use native.Mathlib.Omega.{arith}
-use lib.ListN.{get_or, length-set}
-use lib.Ieee.{nan}
+use Rattle.std.proofs.Common.{ℕ, ◌+◌, get_or, arith, rules, refl, length, length-set}
+use Rattle.std.specs.Float.{nan}
+use Rattle.std.proofs.lemmas.List.{length_push}
 use Rattle.lists.specs.Entries.{cell}
 use Rattle.lists.proofs.Steps.{over_none, over-next}
 use Rattle.sparse.specs.Sparse.{segment}
+use Rattle.sparse.proofs.Pairs.{pair_at, pairs-all}
 use Rattle.adjoint.specs.Selectors.{add_weight}
 use Rattle.adjoint.proofs.selectors.add_weights.Goals as goal
 
-pub loop-k-init : goal.loop-k-init
-loop-k-init c = (omega arith, refl, refl, over_none _ _ _)
-
-pub overflow_add-at : goal.overflow_add-at
-overflow_add-at c = let b = c.requires.by_index (c.args.first + c.loop-k.k) (omega arith) in omega arith
-
-pub offset_bounds-out-at : goal.offset_bounds-out-at
-offset_bounds-out-at c = let b = c.requires.by_index (c.args.first + c.loop-k.k) (omega arith) in omega arith
+pub loop-row-init : goal.loop-row-init
+loop-row-init c = (refl, over_none _ _ _)
 
 pub bounds-out-at : goal.bounds-out-at
-bounds-out-at c = let b = c.requires.by_index (c.args.first + c.loop-k.k) (omega arith) in omega arith
+bounds-out-at c =
+    let a = c.args in
+    let f = c.requires.first_le_past in
+    let t =
+    pair_at a.rows.now a.weights.now a.first a.past f.0 f.1 f.2 c.loop-row.yielded c.into_iter-row-iterator.result c.loop-row.row-iterator
+    c.next.new.self _ (search rules) (search rules) c.loop-row.yielded_by (c.in-Some.row, c.in-Some.weight) c.in-Some.is c.next.ensures.steps in
+    omega (arith, t.row-is, c.requires.by_index (a.first + length c.loop-row.yielded) (omega (arith, t.within)))
 
-pub offset_bounds-out-at-in-loop-k : goal.offset_bounds-out-at-in-loop-k
-offset_bounds-out-at-in-loop-k c = let b = c.requires.by_index (c.args.first + c.loop-k.k) (omega arith) in omega arith
-
-pub bounds-out-at-in-loop-k : goal.bounds-out-at-in-loop-k
-bounds-out-at-in-loop-k c = let b = c.requires.by_index (c.args.first + c.loop-k.k) (omega arith) in omega arith
-
-pub loop-k-preserved : goal.loop-k-preserved
+pub loop-row-preserved : goal.loop-row-preserved
 unfolding add_weight
-loop-k-preserved c =
-    (omega arith, c.loop-k.invariant.1, simp length-set (omega arith), over-next (add_weight c.args.base) (λ j. cell (get_or c.args.rows.now (c.args.first + j) 0) (get_or c.args.weights.now (c.args.first + j) nan)) _ _ _ _ c.loop-k.invariant.3 (rw c.wide.ensures.value))
+loop-row-preserved c =
+    let a = c.args in
+    let f = c.requires.first_le_past in
+    let t =
+    pair_at a.rows.now a.weights.now a.first a.past f.0 f.1 f.2 c.loop-row.yielded c.into_iter-row-iterator.result c.loop-row.row-iterator
+    c.next.new.self _ (search rules) (search rules) c.loop-row.yielded_by (c.in-Some.row, c.in-Some.weight) c.in-Some.is c.next.ensures.steps in
+    let cells = λ (j : ℕ). cell (get_or a.rows.now (a.first + j) 0) (get_or a.weights.now (a.first + j) nan) in
+    rw length_push (
+      simp length-set (omega arith),
+      over-next (add_weight a.base) cells _ _ _ _ c.loop-row.invariant.1 (rw (t.row-is, t.weight-is)),
+    )
 
 pub returns : goal.returns
 unfolding segment
 returns c =
-    let e : c.loop-k.k ≡ c.args.past - c.args.first = omega arith in
-    rw e at c.loop-k.invariant.3
+    let a = c.args in
+    let f = c.requires.first_le_past in
+    let e =
+    pairs-all a.rows.now a.weights.now a.first a.past f.0 f.1 f.2 c.loop-row.yielded c.into_iter-row-iterator.result c.loop-row.row-iterator
+    c.next.new.self _ (search rules) (search rules) c.loop-row.yielded_by c.in-None.is c.next.ensures.steps in
+    rw e at c.loop-row.invariant.1

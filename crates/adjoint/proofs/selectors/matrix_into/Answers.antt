@@ -8,4 +8,4 @@ use Rattle.adjoint.proofs.selectors.matrix_into.Goals as goal
 pub returns : goal.returns
 unfolding selector_matrix
 returns c =
-    (c.add_items.ensures ∙ rw (c.fill_f64.ensures ∙ filled-whole c.args.out.now zero64, c.requires.2, c.requires.1), omega arith)
+    (c.add_items.ensures ∙ rw (c.fill.ensures ∙ filled-whole c.args.out.now zero64, c.requires.2, c.requires.1), omega arith)

@@ -1,14 +1,13 @@
 -- `assembly::inner::count_buses` meets its contract. Assumes nothing.
-use Prim.Native.Nat.{◌≤◌, ◌-◌, ◌*◌}
-use mathlib.Core.Path.{◌≡◌}
-use lib.ListN.{length}
+use Rattle.std.proofs.Common.{◌≤◌, ◌*◌, ◌≡◌, length}
 use Rattle.lists.specs.UpTo.{sum}
 use Rattle.numbering.specs.Laid.{net_of}
 use Rattle.bus_columns.specs.Counts.{own_cells}
 use Rattle.assembly.proofs.inner.count_buses.Given as goal
 
 abbrev pub invariant-loop-i : goal.invariant-loop-i
-invariant-loop-i l = (l.i ≤ l.n) × (l.n ≡ l.l.n) × (l.count ≤ 4 * l.i) × (l.count ≡ sum l.i (λ j. length (own_cells (net_of l.l l.bytes) j)))
-
-abbrev pub decreases-loop-i : goal.decreases-loop-i
-decreases-loop-i l = l.n - l.i
+invariant-loop-i l =
+    record {
+      bound : l.count ≤ 4 * l.i;
+      counted : l.count ≡ sum l.i (λ j. length (own_cells (net_of l.l l.bytes) j));
+    }

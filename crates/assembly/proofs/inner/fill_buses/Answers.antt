@@ -1,15 +1,12 @@
 -- `assembly::inner::fill_buses` meets its contract: the lent starts are those of the w columns and of as many behind them as there are ends, and only what is written next is ahead. Assumes nothing.
-use Prim.Native.Nat.{◌+◌, ◌*◌}
-use mathlib.Core.Path.{◌≡◌, sym}
-use native.Mathlib.Omega.{arith}
-use lib.ListN.{length-take, length-drop}
+use Rattle.std.proofs.Common.{◌+◌, ◌*◌, ◌≡◌, sym, arith, length-take, length-drop}
 use Rattle.lists.specs.UpTo.{each}
 use Rattle.lists.proofs.Compressed.{joined-listed}
 use Rattle.numbering.specs.Laid.{net_of}
 use Rattle.numbering.specs.declared.ColumnName.TheVariants.{W}
 use Rattle.numbering.proofs.Numbers.{layout-column}
 use Rattle.matrix.specs.Columns.{w_cells}
-use Rattle.cells.proofs.Fills.{listed-length}
+use Rattle.lists.proofs.Listed.{listed-length}
 use Rattle.bus_columns.specs.Gathered.{four_of}
 use Rattle.bus_columns.proofs.Counts.{columns-most}
 use Rattle.bus_columns.proofs.Gathered.{fours-length}
@@ -29,7 +26,14 @@ put_buses-requires c =
     let n = c.count_buses.ensures.value in
     let w = c.w_column.ensures in
     let p = c.w_column-2.ensures in
-    let m = columns-most a.l a.bytes.now h.laid in record { laid = h.laid; list_len = simp (length-take, length-drop) (omega (arith, h.at_bound.1, w, p, layout-column a.l (W 0), layout-column a.l (W a.l.n))); at_bound = omega (arith, h.at_bound.0); bytes_bound = omega (arith, m, n); m_in_bounds = omega (arith, h.m_in_bounds, n) }
+    let m = columns-most a.l a.bytes.now h.laid in
+    record {
+      laid = h.laid;
+      list_len = simp (length-take, length-drop) (omega (arith, h.at_bound.1, w, p, layout-column a.l (W 0), layout-column a.l (W a.l.n)));
+      at_bound = omega (arith, h.at_bound.0);
+      bytes_bound = omega (arith, m, n);
+      m_in_bounds = omega (arith, h.m_in_bounds, n);
+    }
 
 pub returns : goal.returns
 returns c =

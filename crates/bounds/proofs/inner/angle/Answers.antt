@@ -1,5 +1,5 @@
 -- `bounds::inner::angle` meets its contract: both angle rows have 0, or 1 where they are inactive. Assumes nothing.
-use mathlib.Core.Path.{refl}
+use Rattle.std.proofs.Common.{refl}
 use Rattle.rows.specs.Rows.{b}
 use Rattle.bounds.proofs.inner.angle.Goals as goal
 

@@ -1,5 +1,5 @@
 -- `bounds::inner::upper_voltage` meets its contract: flag and value are the record's, and b of the row is the same choice. Assumes nothing.
-use mathlib.Core.Path.{refl}
+use Rattle.std.proofs.Common.{refl}
 use Rattle.rows.specs.Rows.{b}
 use Rattle.bounds.proofs.inner.upper_voltage.Goals as goal
 

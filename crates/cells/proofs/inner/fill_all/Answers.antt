@@ -1,21 +1,12 @@
 -- `cells::inner::fill_all` meets its contract. Assumes nothing.
-use Prim.Native.Nat.{◌-◌}
-use mathlib.Core.Path.{refl}
-use native.Mathlib.Omega.{arith}
-use Rattle.cells.proofs.Fills.{filled_none, filled_more, kept-length, filled-all}
+use Rattle.std.proofs.Common.{◌≡◌, ◌-◌, ◌+◌, replicate, arith}
+use Rattle.std.proofs.lemmas.Grind.{common_steps}
+use Rattle.cells.proofs.Fills.{filled-stretch}
 use Rattle.cells.proofs.inner.fill_all.Goals as goal
 
-pub loop-i-init : goal.loop-i-init
-loop-i-init c = (omega arith, filled_none _)
-
-pub bounds-out-at : goal.bounds-out-at
-bounds-out-at c = omega (arith, kept-length c.loop-i.invariant.1)
-
-pub loop-i-preserved : goal.loop-i-preserved
-loop-i-preserved c = (omega arith, filled_more _ c.loop-i.invariant.1 refl)
-
-pub shape_of-out : goal.shape_of-out
-shape_of-out c = kept-length c.loop-i.invariant.1
-
 pub returns : goal.returns
-returns c = filled-all _ (omega arith) c.loop-i.invariant.1
+returns c =
+    let a = c.args in
+    let h : c.fill.new.self ≡ replicate a.count a.v = grind (arith, common_steps) in
+    let k : a.at + a.count - a.at ≡ a.count = omega arith in
+    rw k (filled-stretch a.at a.count a.v c.requires h)

@@ -1,5 +1,5 @@
 -- `cells::inner::put` meets its contract. Assumes nothing.
-use native.Mathlib.Omega.{arith}
+use Rattle.std.proofs.Common.{arith}
 use Rattle.lists.specs.Compressed.{write_cells}
 use Rattle.matrix.specs.Columns.{one_cell}
 use Rattle.cells.proofs.inner.put.Goals as goal

@@ -1,4 +1,4 @@
-use Prim.Native.Nat.{◌*◌, ◌-◌}
+use Prim.Native.Nat.{◌*◌}
 use mathlib.Core.Path.{◌≡◌, refl, sym, ◌∙◌}
 use native.Mathlib.Omega.{arith}
 use lib.ListN.{length}
@@ -25,7 +25,8 @@ pub slice_bounds-fill-end-in-loop-c-2 : goal.slice_bounds-fill-end-in-loop-c-2
 slice_bounds-fill-end-in-loop-c-2 c = sym c.loop-c.invariant.4
 
 pub fill-filled-requires : goal.fill-filled-requires
-fill-filled-requires c = record { column_lt_columns = (c.loop-c-test.true, c.loop-c.invariant.1, c.requires.0, c.requires.1, c.requires.3); starts_len = (c.loop-c.invariant.2, c.loop-c.invariant.3, c.loop-c.invariant.4) }
+fill-filled-requires c =
+    record { column_lt_columns = (c.loop-c-test.true, c.loop-c.invariant.1, c.requires.0, c.requires.1, c.requires.3); starts_len = (c.loop-c.invariant.2, c.loop-c.invariant.3, c.loop-c.invariant.4) }
 
 pub slice_bounds-weigh_all-end : goal.slice_bounds-weigh_all-end
 slice_bounds-weigh_all-end c = omega arith
@@ -39,7 +40,11 @@ slice_bounds-weigh_all-end-in-loop-c-2 c = omega arith
 pub weigh_all-requires : goal.weigh_all-requires
 weigh_all-requires c =
     let f = c.fill-filled.ensures in
-    let e : length c.loop-c.out ≡ c.args.items * c.args.columns = c.loop-c.invariant.5.long ∙ c.requires.5 in record { spread = (rw e (spread_adjoint c.args.items c.args.columns c.loop-c.c c.fill-filled.result.segments f.inside), segments-filled f (omega arith) (omega arith) (omega arith), c.requires.4); at_bound = (omega arith, c.requires.1, omega arith, c.requires.2, c.requires.0) }
+    let e : length c.loop-c.out ≡ c.args.items * c.args.columns = c.loop-c.invariant.5.long ∙ c.requires.5 in
+    record {
+      spread = (rw e (spread_adjoint c.args.items c.args.columns c.loop-c.c c.fill-filled.result.segments f.inside), segments-filled f (omega arith) (omega arith) (omega arith), c.requires.4);
+      at_bound = (omega arith, c.requires.1, omega arith, c.requires.2, c.requires.0);
+    }
 
 pub loop-c-smaller : goal.loop-c-smaller
 loop-c-smaller c =

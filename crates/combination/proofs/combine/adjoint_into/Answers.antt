@@ -9,6 +9,6 @@ use Rattle.combination.proofs.combine.adjoint_into.Goals as goal
 
 pub returns : goal.returns
 returns c =
-    let e : length c.fill_f64.new.d ≡ c.args.items * c.args.columns = omega arith in
-    let z : c.fill_f64.new.d ≡ replicate (c.args.items * c.args.columns) zero64 = c.fill_f64.ensures ∙ filled-whole c.args.out.now zero64 ∙ ap (λ (n : ℕ). replicate n zero64) c.requires.5 in
+    let e : length c.fill.new.d ≡ c.args.items * c.args.columns = omega arith in
+    let z : c.fill.new.d ≡ replicate (c.args.items * c.args.columns) zero64 = c.fill.ensures ∙ filled-whole c.args.out.now zero64 ∙ ap (λ (n : ℕ). replicate n zero64) c.requires.5 in
     (c.scale.ensures ∙ adjoint_table c.args.items c.args.columns c.args.dim c.args.sign c.args.rhs.now c.args.y.now z e c.add_columns.ensures, omega arith)

@@ -1,5 +1,5 @@
-use mathlib.Core.Path.{sym, ◌∙◌}
-use native.Mathlib.Omega.{arith}
+-- Only bounded products are taken.
+use Rattle.std.proofs.Common.{sym, ◌∙◌, arith}
 use Rattle.combination.specs.Checks.{combination_fits}
 use Rattle.sparse.proofs.Fits.{bounds, selected, size}
 use Rattle.combination.proofs.direction.adjoint_fits.Goals as goal

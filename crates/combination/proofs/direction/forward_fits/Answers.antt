@@ -1,5 +1,5 @@
-use mathlib.Core.Path.{sym, ◌∙◌}
-use native.Mathlib.Omega.{arith}
+-- Only a bounded product is taken.
+use Rattle.std.proofs.Common.{sym, ◌∙◌, arith}
 use Rattle.combination.specs.Checks.{combination_fits}
 use Rattle.sparse.proofs.Fits.{bounds, size}
 use Rattle.combination.proofs.direction.forward_fits.Goals as goal

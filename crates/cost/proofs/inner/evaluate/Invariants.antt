@@ -1,12 +1,8 @@
 -- `cost::inner::evaluate` meets its contract. Assumes nothing.
-use Prim.Native.Nat.{◌≤◌, ◌+◌, ◌-◌}
-use mathlib.Core.Path.{◌≡◌}
+use Rattle.std.proofs.Common.{◌+◌, ◌≡◌}
 use Rattle.records.specs.Fields.{slope_of, intercept_of}
 use Rattle.cost.specs.Cost.{highest}
 use Rattle.cost.proofs.inner.evaluate.Given as goal
 
 abbrev pub invariant-loop-t : goal.invariant-loop-t
-invariant-loop-t l = (l.t ≤ l.count) × (l.best ≡ highest (λ t. slope_of l.b (l.first + t)) (λ t. intercept_of l.b (l.first + t)) l.t l.x)
-
-abbrev pub decreases-loop-t : goal.decreases-loop-t
-decreases-loop-t l = l.count - l.t
+invariant-loop-t l = l.best ≡ highest (λ t. slope_of l.b (l.first + t)) (λ t. intercept_of l.b (l.first + t)) l.t l.x

@@ -1,5 +1,5 @@
 -- `cost::inner::line` meets its contract. Assumes nothing.
-use mathlib.Core.Path.{refl}
+use Rattle.std.proofs.Common.{refl}
 use Rattle.cost.specs.Cost.{affine}
 use Rattle.cost.proofs.inner.line.Goals as goal
 

@@ -1,5 +1,5 @@
 -- `cost::inner::parabola` meets its contract. Assumes nothing.
-use mathlib.Core.Path.{refl}
+use Rattle.std.proofs.Common.{refl}
 use Rattle.cost.specs.Cost.{parabola}
 use Rattle.cost.proofs.inner.parabola.Goals as goal
 

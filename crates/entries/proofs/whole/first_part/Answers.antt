@@ -1,34 +1,30 @@
--- `entries::whole::first_part` meets its contract. Assumes nothing.
-use Rattle.dealing.proofs.Fills.{ahead_wrote, ahead_then, ahead_rows, ahead_cols, ahead_vals}
-use Rattle.entries.proofs.Rooms.{room-before, room_after, room-plain}
-use mathlib.Core.List.{map}
+use Rattle.std.proofs.Common.{map, ◌++◌}
 use Rattle.lists.specs.Entries.{turned}
-use mathlib.Core.List.{◌++◌}
+use Rattle.dealing.proofs.Ahead.{plain, then}
+use Rattle.numbering.specs.Network.{grid}
 use Rattle.rows.specs.Program.{equalities, every_row, quadratic}
 use Rattle.kkt.specs.Kkt.{plain_row}
-use Rattle.numbering.specs.Laid.{net_of}
+use Rattle.entries.proofs.Rooms.{room-before, room_after, room-plain}
 use Rattle.entries.proofs.whole.first_part.Goals as goal
 
-pub put_quadratic-n1-requires : goal.put_quadratic-n1-requires
-put_quadratic-n1-requires c =
-    let N = net_of c.args.l c.args.bytes.now in record { laid = c.requires.given.laid; bytes_bound = (room-plain _ _ (quadratic N) (room-before _ _ _ (quadratic N) (map turned (every_row N (plain_row N))) (room-before _ _ _ (quadratic N ++ map turned (every_row N (plain_row N))) (equalities N (plain_row N)) c.requires.n_bound))) }
+pub put_quadratic-requires : goal.put_quadratic-requires
+put_quadratic-requires c =
+    let N = grid c.args.p.now.net in
+    let turns = map turned (every_row N (plain_row N)) in
+    let equal = equalities N (plain_row N) in
+    record { room = room-plain _ _ (quadratic N) (room-before _ _ _ (quadratic N) turns (room-before _ _ _ (quadratic N ++ turns) equal c.requires)) }
 
-pub turned_rows-n2-requires : goal.turned_rows-n2-requires
-turned_rows-n2-requires c =
-    let N = net_of c.args.l c.args.bytes.now in record { given = c.requires.given; n_bound = (room_after (map turned (every_row N (plain_row N))) (ahead_wrote _ c.put_quadratic-n1.ensures) (room-before _ _ _ (quadratic N ++ map turned (every_row N (plain_row N))) (equalities N (plain_row N)) c.requires.n_bound)) }
+pub turned_rows-requires : goal.turned_rows-requires
+turned_rows-requires c =
+    let N = grid c.args.p.now.net in
+    let turns = map turned (every_row N (plain_row N)) in
+    let equal = equalities N (plain_row N) in
+    room_after turns (plain c.put_quadratic.ensures) (room-before _ _ _ (quadratic N ++ turns) equal c.requires)
 
 pub equality_rows-requires : goal.equality_rows-requires
 equality_rows-requires c =
-    let N = net_of c.args.l c.args.bytes.now in record { laid = c.requires.given.laid; n_bound = (room_after (equalities N (plain_row N)) (ahead_then (ahead_wrote _ c.put_quadratic-n1.ensures) c.turned_rows-n2.ensures) c.requires.n_bound) }
-
-pub shape_of-rows : goal.shape_of-rows
-shape_of-rows c = ahead_rows (ahead_then (ahead_then (ahead_wrote _ c.put_quadratic-n1.ensures) c.turned_rows-n2.ensures) c.equality_rows.ensures)
-
-pub shape_of-cols : goal.shape_of-cols
-shape_of-cols c = ahead_cols (ahead_then (ahead_then (ahead_wrote _ c.put_quadratic-n1.ensures) c.turned_rows-n2.ensures) c.equality_rows.ensures)
-
-pub shape_of-vals : goal.shape_of-vals
-shape_of-vals c = ahead_vals (ahead_then (ahead_then (ahead_wrote _ c.put_quadratic-n1.ensures) c.turned_rows-n2.ensures) c.equality_rows.ensures)
+    let N = grid c.args.p.now.net in
+    room_after (equalities N (plain_row N)) (then (plain c.put_quadratic.ensures) c.turned_rows.ensures) c.requires
 
 pub returns : goal.returns
-returns c = (ahead_then (ahead_then (ahead_wrote _ c.put_quadratic-n1.ensures) c.turned_rows-n2.ensures) c.equality_rows.ensures)
+returns c = then (then (plain c.put_quadratic.ensures) c.turned_rows.ensures) c.equality_rows.ensures

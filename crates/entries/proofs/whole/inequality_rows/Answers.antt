@@ -1,52 +1,63 @@
--- `entries::whole::inequality_rows` meets its contract: each call goes on where the one before it ended, and where a list has room its blocks have. Assumes nothing.
-use Rattle.lists.proofs.Written.{then, len-rows, len-cols, len-vals}
 use Rattle.lists.specs.UpTo.{each}
-use Rattle.entries.proofs.Rooms.{shorter, plain-start, plain-next}
+use Rattle.lists.proofs.Puts.{then}
+use Rattle.numbering.specs.Network.{grid}
 use Rattle.numbering.specs.declared.RowName.TheVariants.{Qgub, Qglb, Angub, Anglb, Segment}
 use Rattle.rows.specs.Program.{inequalities}
-use Rattle.numbering.specs.Laid.{net_of}
 use Rattle.complementarity.specs.Writes.{row_entries}
 use Rattle.entries.specs.Parts.{first_bounds}
+use Rattle.entries.proofs.Rooms.{shorter, plain-start, plain-next}
 use Rattle.entries.proofs.whole.inequality_rows.Goals as goal
 
-pub first_bounds-n1-requires : goal.first_bounds-n1-requires
-first_bounds-n1-requires c =
-    let N = net_of c.args.l c.args.bytes.now in
-    let f = row_entries N c.args.x.now c.args.z.now c.args.d in record { given = c.requires.given; d_bound = plain-start _ _ (first_bounds N f) (inequalities N f) (search shorter depth 12) c.requires.d_bound }
+pub first_bounds-requires : goal.first_bounds-requires
+first_bounds-requires c =
+    let N = grid c.args.p.now.net in
+    let f = row_entries N c.args.p.now.x.now c.args.p.now.z.now c.args.d in
+    plain-start _ _ (first_bounds N f) (inequalities N f) (search shorter depth 12) c.requires
 
-pub bound_rows-n2-requires : goal.bound_rows-n2-requires
-bound_rows-n2-requires c =
-    let N = net_of c.args.l c.args.bytes.now in
-    let f = row_entries N c.args.x.now c.args.z.now c.args.d in record { given = c.requires.given; i_bound = plain-next (each N.k (λ i. f (Qgub i))) (inequalities N f) c.first_bounds-n1.ensures (search shorter depth 12) c.requires.d_bound }
+pub bound_rows-requires : goal.bound_rows-requires
+bound_rows-requires c =
+    let N = grid c.args.p.now.net in
+    let f = row_entries N c.args.p.now.x.now c.args.p.now.z.now c.args.d in
+    record { room = plain-next (each N.k (λ i. f (Qgub i))) (inequalities N f) c.first_bounds.ensures (search shorter depth 12) c.requires }
 
-pub bound_rows-n3-requires : goal.bound_rows-n3-requires
-bound_rows-n3-requires c =
-    let N = net_of c.args.l c.args.bytes.now in
-    let f = row_entries N c.args.x.now c.args.z.now c.args.d in record { given = c.requires.given; i_bound = plain-next (each N.k (λ i. f (Qglb i))) (inequalities N f) (then c.first_bounds-n1.ensures c.bound_rows-n2.ensures) (search shorter depth 12) c.requires.d_bound }
+pub bound_rows-requires-2 : goal.bound_rows-requires-2
+bound_rows-requires-2 c =
+    let N = grid c.args.p.now.net in
+    let f = row_entries N c.args.p.now.x.now c.args.p.now.z.now c.args.d in
+    let w1 = then c.first_bounds.ensures c.bound_rows.ensures in
+    record { room = plain-next (each N.k (λ i. f (Qglb i))) (inequalities N f) w1 (search shorter depth 12) c.requires }
 
-pub bound_rows-n4-requires : goal.bound_rows-n4-requires
-bound_rows-n4-requires c =
-    let N = net_of c.args.l c.args.bytes.now in
-    let f = row_entries N c.args.x.now c.args.z.now c.args.d in record { given = c.requires.given; i_bound = plain-next (each N.m (λ i. f (Angub i))) (inequalities N f) (then (then c.first_bounds-n1.ensures c.bound_rows-n2.ensures) c.bound_rows-n3.ensures) (search shorter depth 12) c.requires.d_bound }
+pub bound_rows-requires-3 : goal.bound_rows-requires-3
+bound_rows-requires-3 c =
+    let N = grid c.args.p.now.net in
+    let f = row_entries N c.args.p.now.x.now c.args.p.now.z.now c.args.d in
+    let w1 = then c.first_bounds.ensures c.bound_rows.ensures in
+    let w2 = then w1 c.bound_rows-2.ensures in
+    record { room = plain-next (each N.m (λ i. f (Angub i))) (inequalities N f) w2 (search shorter depth 12) c.requires }
 
-pub bound_rows-n5-requires : goal.bound_rows-n5-requires
-bound_rows-n5-requires c =
-    let N = net_of c.args.l c.args.bytes.now in
-    let f = row_entries N c.args.x.now c.args.z.now c.args.d in record { given = c.requires.given; i_bound = plain-next (each N.m (λ i. f (Anglb i))) (inequalities N f) (then (then (then c.first_bounds-n1.ensures c.bound_rows-n2.ensures) c.bound_rows-n3.ensures) c.bound_rows-n4.ensures) (search shorter depth 12) c.requires.d_bound }
+pub bound_rows-requires-4 : goal.bound_rows-requires-4
+bound_rows-requires-4 c =
+    let N = grid c.args.p.now.net in
+    let f = row_entries N c.args.p.now.x.now c.args.p.now.z.now c.args.d in
+    let w1 = then c.first_bounds.ensures c.bound_rows.ensures in
+    let w2 = then w1 c.bound_rows-2.ensures in
+    let w3 = then w2 c.bound_rows-3.ensures in
+    record { room = plain-next (each N.m (λ i. f (Anglb i))) (inequalities N f) w3 (search shorter depth 12) c.requires }
 
 pub segment_rows-requires : goal.segment_rows-requires
 segment_rows-requires c =
-    let N = net_of c.args.l c.args.bytes.now in
-    let f = row_entries N c.args.x.now c.args.z.now c.args.d in record { given = c.requires.given; t_bound = plain-next (each N.k (λ g. each (N.segments g) (λ t. f (Segment g t)))) (inequalities N f) (then (then (then (then c.first_bounds-n1.ensures c.bound_rows-n2.ensures) c.bound_rows-n3.ensures) c.bound_rows-n4.ensures) c.bound_rows-n5.ensures) (search shorter depth 12) c.requires.d_bound }
-
-pub shape_of-rows : goal.shape_of-rows
-shape_of-rows c = len-rows (then (then (then (then (then c.first_bounds-n1.ensures c.bound_rows-n2.ensures) c.bound_rows-n3.ensures) c.bound_rows-n4.ensures) c.bound_rows-n5.ensures) c.segment_rows.ensures)
-
-pub shape_of-cols : goal.shape_of-cols
-shape_of-cols c = len-cols (then (then (then (then (then c.first_bounds-n1.ensures c.bound_rows-n2.ensures) c.bound_rows-n3.ensures) c.bound_rows-n4.ensures) c.bound_rows-n5.ensures) c.segment_rows.ensures)
-
-pub shape_of-vals : goal.shape_of-vals
-shape_of-vals c = len-vals (then (then (then (then (then c.first_bounds-n1.ensures c.bound_rows-n2.ensures) c.bound_rows-n3.ensures) c.bound_rows-n4.ensures) c.bound_rows-n5.ensures) c.segment_rows.ensures)
+    let N = grid c.args.p.now.net in
+    let f = row_entries N c.args.p.now.x.now c.args.p.now.z.now c.args.d in
+    let w1 = then c.first_bounds.ensures c.bound_rows.ensures in
+    let w2 = then w1 c.bound_rows-2.ensures in
+    let w3 = then w2 c.bound_rows-3.ensures in
+    let w4 = then w3 c.bound_rows-4.ensures in
+    record { room = plain-next (each N.k (λ g. each (N.segments g) (λ t. f (Segment g t)))) (inequalities N f) w4 (search shorter depth 12) c.requires }
 
 pub returns : goal.returns
-returns c = then (then (then (then (then c.first_bounds-n1.ensures c.bound_rows-n2.ensures) c.bound_rows-n3.ensures) c.bound_rows-n4.ensures) c.bound_rows-n5.ensures) c.segment_rows.ensures
+returns c =
+    let w1 = then c.first_bounds.ensures c.bound_rows.ensures in
+    let w2 = then w1 c.bound_rows-2.ensures in
+    let w3 = then w2 c.bound_rows-3.ensures in
+    let w4 = then w3 c.bound_rows-4.ensures in
+    then w4 c.segment_rows.ensures

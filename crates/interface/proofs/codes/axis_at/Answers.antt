@@ -1,21 +1,8 @@
--- `interface::axis_at` meets its contract: an arm for each code, and past the last one nothing is named. Assumes nothing.
-use mathlib.Core.List.{map}
-use Rattle.interface.specs.declared.codes.AxisCode.TheVariants.{Names, NamesNothing}
+-- An arm for each code, and past the last one nothing is named.
+use Rattle.std.proofs.Common.{sym, map, Some, None, arith}
+use Rattle.std.proofs.lemmas.List.{get_or_past}
 use Rattle.interface.specs.Codes.{axes}
-use Rattle.interface.proofs.Past.{past_end}
 use Rattle.interface.proofs.codes.axis_at.Goals as goal
 
-pub returns-in-0 : goal.returns-in-0
-returns-in-0 c = rw c.in-0.is
-
-pub returns-in-1 : goal.returns-in-1
-returns-in-1 c = rw c.in-1.is
-
-pub returns-in-2 : goal.returns-in-2
-returns-in-2 c = rw c.in-2.is
-
-pub returns-in-3 : goal.returns-in-3
-returns-in-3 c = rw c.in-3.is
-
 pub returns-in_default : goal.returns-in_default
-returns-in_default c = past_end (map Names axes) NamesNothing c.args.code c.in_default.in_default-own.rest
+returns-in_default c = sym (get_or_past (map Some axes) c.args.code None (omega arith))

@@ -1,36 +1,28 @@
--- `interface::inner::selector_room` meets its contract. Assumes nothing.
+-- The first list that is too short ends the check.
 use Rattle.interface.specs.Selectors.{selector_room}
-use Rattle.std.proofs.Common.{rules}
+use Rattle.refusals.proofs.Laws.{ends, went_on}
 use Rattle.interface.proofs.inner.selector_room.Goals as goal
 
-pub room_for-a-requires : goal.room_for-a-requires
+pub returns-in_err-room_for : goal.returns-in_err-room_for
 unfolding selector_room
-room_for-a-requires c = search rules
+returns-in_err-room_for c = ends _ c.from_residual.ensures.1 c.in_err-room_for.was c.room_for.ensures
 
-pub room_for-b-requires : goal.room_for-b-requires
+pub returns-in_err-room_for-2 : goal.returns-in_err-room_for-2
 unfolding selector_room
-room_for-b-requires c = search rules
+returns-in_err-room_for-2 c =
+    went_on c.room_for.ensures c.in_ok-room_for.was
+    (ends _ c.from_residual-in_err-room_for-2.ensures.1 c.in_err-room_for-2.was c.room_for-2.ensures)
 
-pub room_for-c-requires : goal.room_for-c-requires
+pub returns-in_err-room_for-3 : goal.returns-in_err-room_for-3
 unfolding selector_room
-room_for-c-requires c = search rules
-
-pub room_for-d-requires : goal.room_for-d-requires
-unfolding selector_room
-room_for-d-requires c = search rules
-
-pub or_else-requires : goal.or_else-requires
-unfolding selector_room
-or_else-requires c = search rules
-
-pub or_else-requires-2 : goal.or_else-requires-2
-unfolding selector_room
-or_else-requires-2 c = search rules
-
-pub or_else-requires-3 : goal.or_else-requires-3
-unfolding selector_room
-or_else-requires-3 c = search rules
+returns-in_err-room_for-3 c =
+    went_on c.room_for.ensures c.in_ok-room_for.was
+    (went_on c.room_for-2.ensures c.in_ok-room_for-2.was
+    (ends _ c.from_residual-in_err-room_for-3.ensures.1 c.in_err-room_for-3.was c.room_for-3.ensures))
 
 pub returns : goal.returns
 unfolding selector_room
-returns c = cc
+returns c =
+    went_on c.room_for.ensures c.in_ok-room_for.was
+    (went_on c.room_for-2.ensures c.in_ok-room_for-2.was
+    (went_on c.room_for-3.ensures c.in_ok-room_for-3.was c.room_for-4.ensures))

@@ -1,20 +1,12 @@
--- `interface::selector::selector_check` meets its contract: the code is the definition's. Assumes nothing.
+-- Unlike or long lists end the check, or the room decides.
 use Rattle.interface.specs.Selectors.{selector_check}
-use Rattle.std.proofs.Common.{rules}
+use Rattle.refusals.proofs.Laws.{ends, went_on}
 use Rattle.interface.proofs.selector.selector_check.Goals as goal
 
-pub refuse_unless-requires : goal.refuse_unless-requires
+pub returns-in_err-refuse_unless : goal.returns-in_err-refuse_unless
 unfolding selector_check
-refuse_unless-requires c = search rules
-
-pub selector_room-requires : goal.selector_room-requires
-unfolding selector_check
-selector_room-requires c = search rules
-
-pub or_else-requires : goal.or_else-requires
-unfolding selector_check
-or_else-requires c = search rules
+returns-in_err-refuse_unless c = ends _ c.from_residual.ensures.1 c.in_err-refuse_unless.was c.refuse_unless.ensures
 
 pub returns : goal.returns
 unfolding selector_check
-returns c = cc
+returns c = went_on c.refuse_unless.ensures c.in_ok-refuse_unless.was c.selector_room.ensures

@@ -1,5 +1,5 @@
--- `kernel::numbers::sizes_of` meets its contract: the layout of accepted records has their network's sizes. Assumes nothing.
-use mathlib.Core.Path.{refl, ◌∙◌}
+-- The layout of accepted records has their network's sizes.
+use Rattle.std.proofs.Common.{refl, ◌∙◌}
 use Rattle.numbering.proofs.Laid.{limits_are, curves_are, laid-nvar, laid-ncon}
 use Rattle.kernel.proofs.numbers.sizes_of.Goals as goal
 

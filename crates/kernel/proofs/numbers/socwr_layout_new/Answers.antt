@@ -1,23 +1,20 @@
--- `kernel::numbers::socwr_layout_new` meets its contract: nothing where the check refuses, and else the sizes of its layout. Assumes nothing.
-use Rattle.refusals.proofs.Laws.{accepted-by, refused-by}
-use Rattle.numbering.specs.Lookups.{layout_answer}
-use Rattle.numbering.proofs.OnePass.{pass-layout, pass-laid}
+-- The sizes of the layout that is made, or of none.
+use Rattle.std.proofs.Common.{sym, ap, ◌∙◌}
+use Rattle.refusals.proofs.Laws.{refused_by}
+use Rattle.numbering.proofs.OnePass.{new-check, new-layout, new-laid}
+use Rattle.numbering.specs.Laid.{net_of}
+use Rattle.numbering.specs.declared.SocWrLayout.{SocWrLayout}
 use Rattle.kernel.proofs.Sized.{no_sizes}
 use Rattle.kernel.proofs.numbers.socwr_layout_new.Goals as goal
 
-pub returns-then-is_refused : goal.returns-then-is_refused
-returns-then-is_refused c =
-    let p = c.check_layout-checked.ensures.check in
-    no_sizes _ _ (refused-by p c.is_refused.ensures c.if-is_refused.true) (rw p at c.no_sizes.ensures)
-
 pub sizes_of-requires : goal.sizes_of-requires
-sizes_of-requires c =
-    let p = c.check_layout-checked.ensures in
-    pass-laid p (accepted-by p.check c.is_refused.ensures c.if-is_refused.false)
+sizes_of-requires c = new-laid _ _ _ _ _ c.new.ensures c.in-Ok.is
 
-pub returns : goal.returns
-unfolding layout_answer
-returns c =
-    let p = c.check_layout-checked.ensures in
-    let h = accepted-by p.check c.is_refused.ensures c.if-is_refused.false in
-    rw h (rw (pass-layout p h) at c.sizes_of.ensures)
+pub returns-in-Ok : goal.returns-in-Ok
+returns-in-Ok c =
+    let p = c.new.ensures in
+    let h = c.in-Ok.is in
+    rw (sym p ∙ h, new-check _ _ _ _ _ p h) (rw (ap (λ (l : SocWrLayout). net_of l c.args.records.now) (new-layout _ _ _ _ _ p h)) at c.sizes_of.ensures)
+
+pub returns-in-Err : goal.returns-in-Err
+returns-in-Err c = no_sizes _ (sym c.new.ensures ∙ c.in-Err.is) (refused_by _ _ c.new.ensures c.in-Err.is) c.no_sizes.ensures

@@ -1,27 +1,26 @@
--- `lookups::numbers::jabr_row` meets its contract: 7 past the branches or the four rows, and else the layout's row. Assumes nothing.
-use mathlib.Core.Path.{refl, ◌∙◌}
-use native.Mathlib.Omega.{arith}
+-- 7 past the branches or the four rows, and else the layout's row.
+use Rattle.std.proofs.Common.{ℕ, refl, ap, ◌∙◌, Some, Ok}
+use Rattle.refusals.proofs.Laws.{ends, went_on}
 use Rattle.numbering.specs.Laid.{net_of}
 use Rattle.numbering.specs.declared.RowName.TheVariants.{Jabr}
 use Rattle.numbering.proofs.Laid.{laid-row}
-use Rattle.lookups.proofs.Asked.{jabr-item, jabr-place, jabr-found}
+use Rattle.lookups.proofs.Asked.{ask_jabr}
 use Rattle.lookups.proofs.numbers.jabr_row.Goals as goal
 
-pub returns-then-l-e : goal.returns-then-l-e
-returns-then-l-e c =
-    let a = c.args in
-    c.past.ensures ∙ jabr-item (net_of a.l a.bytes.now) a.e a.place c.if-l-e.true
+pub returns-in_err-below : goal.returns-in_err-below
+returns-in_err-below c = ends _ c.from_residual.ensures.1 c.in_err-below.was c.below.ensures.value ∙ ask_jabr (net_of c.args.l c.args.bytes.now) c.args.e c.args.place
 
-pub returns-then-place-ge-JABR_ROWS : goal.returns-then-place-ge-JABR_ROWS
-returns-then-place-ge-JABR_ROWS c =
+pub returns-in_err-below-2 : goal.returns-in_err-below-2
+returns-in_err-below-2 c =
     let a = c.args in
-    c.past-then-place-ge-JABR_ROWS.ensures ∙ jabr-place (net_of a.l a.bytes.now) a.e a.place c.if-l-e.false c.if-place-ge-JABR_ROWS.true
-
-pub jabr_row-requires : goal.jabr_row-requires
-jabr_row-requires c = record { in_range = c.requires.range; e_le_m = (omega arith, omega arith) }
+    went_on c.below.ensures.value c.in_ok-below.was
+    (ends _ c.from_residual-in_err-below-2.ensures.1 c.in_err-below-2.was c.below-2.ensures.value)
+    ∙ ask_jabr (net_of a.l a.bytes.now) a.e a.place
 
 pub returns : goal.returns
 returns c =
     let a = c.args in
-    jabr-found (net_of a.l a.bytes.now) a.e a.place c.if-l-e.false c.if-place-ge-JABR_ROWS.false
-    (c.jabr_row.ensures ∙ laid-row a.l a.bytes.now c.requires (Jabr a.e a.place) refl)
+    let number = c.jabr_row.ensures ∙ laid-row a.l a.bytes.now c.requires (Jabr a.e a.place) refl in
+    went_on c.below.ensures.value c.in_ok-below.was
+    (went_on c.below-2.ensures.value c.in_ok-below-2.was (ap (λ (p : ℕ). Ok (Some p)) number))
+    ∙ ask_jabr (net_of a.l a.bytes.now) a.e a.place

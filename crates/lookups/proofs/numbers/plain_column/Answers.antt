@@ -1,41 +1,47 @@
--- `lookups::numbers::plain_column` meets its contract: 7 past the block's length or its one place, and else the layout's number. Assumes nothing.
-use mathlib.Core.Path.{◌∙◌}
-use native.Mathlib.Omega.{arith}
+-- 7 past the block's length or its one place, and else the layout's number.
+use Rattle.std.proofs.Common.{ℕ, ◌<◌, ap, ◌∙◌, get_or, arith, Some, Ok}
+use Rattle.refusals.proofs.Laws.{ends, went_on}
 use Rattle.numbering.specs.Numbering.{column_blocks}
 use Rattle.numbering.specs.Laid.{net_of}
+use Rattle.numbering.specs.Layout.{layout_columns, sizes_of}
 use Rattle.numbering.proofs.Entered.{column-most}
 use Rattle.numbering.proofs.Tables.{laid-column-block, laid-column-key}
 use Rattle.lookups.specs.Lookups.{column_asked}
-use Rattle.lookups.proofs.Asked.{plain-item, plain-place, plain-number, column-among, column-has}
+use Rattle.lookups.proofs.Asked.{ask_plain, column-among, column-has}
 use Rattle.lookups.proofs.numbers.plain_column.Goals as goal
 
-pub returns-then-sizes-block : goal.returns-then-sizes-block
+pub returns-in_err-below : goal.returns-in_err-below
 unfolding column_asked
-returns-then-sizes-block c =
+returns-in_err-below c =
     let a = c.args in
     let G = net_of a.l a.bytes.now in
-    c.past.ensures
-    ∙ plain-item (column_blocks G) _ a.block a.item a.place _ (column-among G a.block (omega arith)) (laid-column-block a.l a.bytes.now c.requires.0 a.block c.requires.1)
-    (rw c.column_sizes-sizes.ensures at c.if-sizes-block.true)
+    let here = laid-column-block a.l a.bytes.now c.requires.0 a.block c.requires.1 in
+    ends _ c.from_residual.ensures.1 c.in_err-below.was (rw c.column_sizes-sizes.ensures at c.below.ensures.value)
+    ∙ ask_plain (column_blocks G) _ a.block a.item a.place _ (column-among G a.block (omega arith)) here (column-has G a.block a.item a.place c.requires.1)
 
-pub returns-then-place-gt0 : goal.returns-then-place-gt0
+pub returns-in_err-below-2 : goal.returns-in_err-below-2
 unfolding column_asked
-returns-then-place-gt0 c =
+returns-in_err-below-2 c =
     let a = c.args in
     let G = net_of a.l a.bytes.now in
-    c.past-then-place-gt0.ensures
-    ∙ plain-place (column_blocks G) _ a.block a.item a.place _ (column-among G a.block (omega arith)) (laid-column-block a.l a.bytes.now c.requires.0 a.block c.requires.1)
-    (column-has G a.block a.item a.place c.requires.1) (rw c.column_sizes-sizes.ensures at c.if-sizes-block.false) c.if-place-gt0.true
+    let here = laid-column-block a.l a.bytes.now c.requires.0 a.block c.requires.1 in
+    went_on (rw c.column_sizes-sizes.ensures at c.below.ensures.value) c.in_ok-below.was
+    (ends _ c.from_residual-in_err-below-2.ensures.1 c.in_err-below-2.was c.below-2.ensures.value)
+    ∙ ask_plain (column_blocks G) _ a.block a.item a.place _ (column-among G a.block (omega arith)) here (column-has G a.block a.item a.place c.requires.1)
 
 pub column_at-requires : goal.column_at-requires
 column_at-requires c =
-    let inside = rw c.column_sizes-sizes.ensures at c.if-sizes-block.false in record { in_range = c.requires.0.range; block_lt_column_many = (omega arith, omega (arith, column-most c.args.l c.requires.0.range c.args.block)) }
+    let a = c.args in
+    let inside : a.item < get_or (sizes_of (layout_columns a.l)) a.block 0 = rw (c.in_ok-below.was, c.column_sizes-sizes.ensures) at c.below.ensures.in_range in
+    record { in_range = c.requires.0.range; block_lt_column_many = (omega arith, omega (arith, column-most a.l c.requires.0.range a.block)) }
 
 pub returns : goal.returns
 unfolding column_asked
 returns c =
     let a = c.args in
     let G = net_of a.l a.bytes.now in
-    plain-number (column_blocks G) _ a.block a.item a.place _ (column-among G a.block (omega arith)) (laid-column-block a.l a.bytes.now c.requires.0 a.block c.requires.1)
-    (column-has G a.block a.item a.place c.requires.1) (rw c.column_sizes-sizes.ensures at c.if-sizes-block.false) (omega arith)
-    (c.column_at.ensures ∙ laid-column-key a.l a.bytes.now c.requires.0 a.block a.item c.requires.1)
+    let here = laid-column-block a.l a.bytes.now c.requires.0 a.block c.requires.1 in
+    let number = c.column_at.ensures ∙ laid-column-key a.l a.bytes.now c.requires.0 a.block a.item c.requires.1 in
+    went_on (rw c.column_sizes-sizes.ensures at c.below.ensures.value) c.in_ok-below.was
+    (went_on c.below-2.ensures.value c.in_ok-below-2.was (ap (λ (p : ℕ). Ok (Some p)) number))
+    ∙ ask_plain (column_blocks G) _ a.block a.item a.place _ (column-among G a.block (omega arith)) here (column-has G a.block a.item a.place c.requires.1)

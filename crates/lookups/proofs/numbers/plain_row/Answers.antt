@@ -1,44 +1,47 @@
--- `lookups::numbers::plain_row_lem` meets its contract: 7 past the block's length or its one place, and else the layout's number. Assumes nothing.
-use mathlib.Core.Path.{◌∙◌}
-use native.Mathlib.Omega.{arith}
+-- 7 past the block's length or its one place, and else the layout's number.
+use Rattle.std.proofs.Common.{ℕ, ◌<◌, ap, ◌∙◌, get_or, arith, Some, Ok}
+use Rattle.refusals.proofs.Laws.{ends, went_on}
 use Rattle.numbering.specs.Numbering.{row_blocks}
 use Rattle.numbering.specs.Laid.{net_of}
+use Rattle.numbering.specs.Layout.{layout_rows, sizes_of}
 use Rattle.numbering.proofs.Entered.{row-most}
 use Rattle.numbering.proofs.Tables.{laid-row-block, laid-row-key}
 use Rattle.lookups.specs.Lookups.{row_asked}
-use Rattle.lookups.proofs.Asked.{plain-item, plain-place, plain-number, row-among, row_has_lem}
+use Rattle.lookups.proofs.Asked.{ask_plain, row-among, row_has_lem}
 use Rattle.lookups.proofs.numbers.plain_row.Goals as goal
 
-pub row_sizes-sizes-requires : goal.row_sizes-sizes-requires
-row_sizes-sizes-requires c = c.requires.0.range
-
-pub returns-then-sizes-block : goal.returns-then-sizes-block
+pub returns-in_err-below : goal.returns-in_err-below
 unfolding row_asked
-returns-then-sizes-block c =
+returns-in_err-below c =
     let a = c.args in
     let G = net_of a.l a.bytes.now in
-    c.past.ensures
-    ∙ plain-item (row_blocks G) _ a.block a.item a.place _ (row-among G a.block (omega arith)) (laid-row-block a.l a.bytes.now c.requires.0 a.block c.requires.1)
-    (rw c.row_sizes-sizes.ensures at c.if-sizes-block.true)
+    let here = laid-row-block a.l a.bytes.now c.requires.0 a.block c.requires.1 in
+    ends _ c.from_residual.ensures.1 c.in_err-below.was (rw c.row_sizes-sizes.ensures at c.below.ensures.value)
+    ∙ ask_plain (row_blocks G) _ a.block a.item a.place _ (row-among G a.block (omega arith)) here (row_has_lem G a.block a.item a.place c.requires.1)
 
-pub returns-then-place-gt0 : goal.returns-then-place-gt0
+pub returns-in_err-below-2 : goal.returns-in_err-below-2
 unfolding row_asked
-returns-then-place-gt0 c =
+returns-in_err-below-2 c =
     let a = c.args in
     let G = net_of a.l a.bytes.now in
-    c.past-then-place-gt0.ensures
-    ∙ plain-place (row_blocks G) _ a.block a.item a.place _ (row-among G a.block (omega arith)) (laid-row-block a.l a.bytes.now c.requires.0 a.block c.requires.1)
-    (row_has_lem G a.block a.item a.place c.requires.1) (rw c.row_sizes-sizes.ensures at c.if-sizes-block.false) c.if-place-gt0.true
+    let here = laid-row-block a.l a.bytes.now c.requires.0 a.block c.requires.1 in
+    went_on (rw c.row_sizes-sizes.ensures at c.below.ensures.value) c.in_ok-below.was
+    (ends _ c.from_residual-in_err-below-2.ensures.1 c.in_err-below-2.was c.below-2.ensures.value)
+    ∙ ask_plain (row_blocks G) _ a.block a.item a.place _ (row-among G a.block (omega arith)) here (row_has_lem G a.block a.item a.place c.requires.1)
 
 pub row_at-requires : goal.row_at-requires
 row_at-requires c =
-    let inside = rw c.row_sizes-sizes.ensures at c.if-sizes-block.false in record { in_range = c.requires.0.range; block_lt_jabr_rows = (omega arith, omega (arith, row-most c.args.l c.requires.0.range c.args.block)) }
+    let a = c.args in
+    let inside : a.item < get_or (sizes_of (layout_rows a.l)) a.block 0 = rw (c.in_ok-below.was, c.row_sizes-sizes.ensures) at c.below.ensures.in_range in
+    record { in_range = c.requires.0.range; block_lt_jabr_rows = (omega arith, omega (arith, row-most a.l c.requires.0.range a.block)) }
 
 pub returns : goal.returns
 unfolding row_asked
 returns c =
     let a = c.args in
     let G = net_of a.l a.bytes.now in
-    plain-number (row_blocks G) _ a.block a.item a.place _ (row-among G a.block (omega arith)) (laid-row-block a.l a.bytes.now c.requires.0 a.block c.requires.1)
-    (row_has_lem G a.block a.item a.place c.requires.1) (rw c.row_sizes-sizes.ensures at c.if-sizes-block.false) (omega arith)
-    (c.row_at.ensures ∙ laid-row-key a.l a.bytes.now c.requires.0 a.block a.item c.requires.1)
+    let here = laid-row-block a.l a.bytes.now c.requires.0 a.block c.requires.1 in
+    let number = c.row_at.ensures ∙ laid-row-key a.l a.bytes.now c.requires.0 a.block a.item c.requires.1 in
+    went_on (rw c.row_sizes-sizes.ensures at c.below.ensures.value) c.in_ok-below.was
+    (went_on c.below-2.ensures.value c.in_ok-below-2.was (ap (λ (p : ℕ). Ok (Some p)) number))
+    ∙ ask_plain (row_blocks G) _ a.block a.item a.place _ (row-among G a.block (omega arith)) here (row_has_lem G a.block a.item a.place c.requires.1)

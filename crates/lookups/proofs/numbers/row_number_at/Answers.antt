@@ -1,22 +1,13 @@
--- `lookups::numbers::row_number_at` meets its contract: the check's answer, and else what is asked of its network. Assumes nothing.
-use mathlib.Core.Path.{sym, ◌∙◌}
-use Rattle.refusals.proofs.Laws.{accepted-by}
-use Rattle.numbering.proofs.Entered.{stopped-at, answered}
-use Rattle.numbering.proofs.OnePass.{pass-layout, pass-laid}
+-- The check's cause, and else what is asked of its network.
+use Rattle.refusals.proofs.Laws.{ends_by, went_on_by}
+use Rattle.numbering.proofs.OnePass.{new-laid, new-layout}
 use Rattle.lookups.proofs.numbers.row_number_at.Goals as goal
 
-pub returns-then-is_refused : goal.returns-then-is_refused
-returns-then-is_refused c =
-    let p = c.check_layout-checked.ensures in
-    stopped-at _ c.refused.ensures p.check (sym c.is_refused.ensures ∙ c.if-is_refused.true)
+pub returns-in_err-new : goal.returns-in_err-new
+returns-in_err-new c = ends_by _ _ c.new.ensures _ c.from_residual.ensures.1 c.in_err-new.was
 
 pub row_asked-requires : goal.row_asked-requires
-row_asked-requires c =
-    let p = c.check_layout-checked.ensures in
-    pass-laid p (accepted-by p.check c.is_refused.ensures c.if-is_refused.false)
+row_asked-requires c = new-laid _ _ _ _ _ c.new.ensures c.in_ok-new.was
 
 pub returns : goal.returns
-returns c =
-    let p = c.check_layout-checked.ensures in
-    let ok = accepted-by p.check c.is_refused.ensures c.if-is_refused.false in
-    (rw (pass-layout p ok) at c.row_asked.ensures) ∙ answered _ ok
+returns c = went_on_by _ _ c.new.ensures c.in_ok-new.was (λ e. rw (new-layout _ _ _ _ _ c.new.ensures c.in_ok-new.was) at c.row_asked.ensures)

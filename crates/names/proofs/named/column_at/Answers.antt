@@ -1,7 +1,5 @@
 -- `names::named::column_at` meets its contract: the block that p is in and the record there make a name that stands at p. Assumes nothing.
-use mathlib.Core.Path.{◌≡◌, ap, ◌∙◌}
-use native.Mathlib.Omega.{arith}
-use lib.ListN.{length}
+use Rattle.std.proofs.Common.{◌≡◌, ap, ◌∙◌, arith, length}
 use Rattle.numbering.specs.Numbering.{cost_columns}
 use Rattle.numbering.proofs.Entered.{column_blocks_lem}
 use Rattle.names.proofs.Standing.{column-total, plain-column-stands, cost-inside, cost-stands}

@@ -1,14 +1,9 @@
 -- `names::named::row_at` meets its contract: the block that p is in, the record there and the place make a name that stands at p. Assumes nothing.
-use mathlib.Core.Path.{◌≡◌, ap, ◌∙◌}
-use native.Mathlib.Omega.{arith}
-use lib.ListN.{length}
+use Rattle.std.proofs.Common.{◌≡◌, ap, ◌∙◌, arith, length}
 use Rattle.numbering.specs.Numbering.{thermal_rows}
 use Rattle.numbering.proofs.Entered.{row_blocks_lem}
 use Rattle.names.proofs.Standing.{row-total, plain-row-stands, segment_in, segment-stands, jabr-stands, thermal_in_lem, thermal-stands}
 use Rattle.names.proofs.named.row_at.Goals as goal
-
-pub row_sizes-sizes-requires : goal.row_sizes-sizes-requires
-row_sizes-sizes-requires c = c.requires.0.range
 
 pub block_of-q-requires : goal.block_of-q-requires
 block_of-q-requires c =

@@ -1,46 +1,41 @@
--- `names::named::row_name` meets its contract: the check's answer, 7 past the end, and else the name that stands there. Assumes nothing.
-use Prim.Native.Nat.{◌<◌}
-use mathlib.Core.Path.{sym, ◌∙◌}
-use native.Mathlib.Omega.{arith}
-use Rattle.refusals.proofs.Laws.{accepted-by}
+-- The check's cause, 7 past the end, and else the name that stands there.
+use Rattle.std.proofs.Common.{◌<◌, refl, sym, ap, ◌∙◌, ltb-true, Ok}
+use Rattle.refusals.proofs.Laws.{ends, went_on, refused_by, answer_ended, answer_went_on, test-held}
 use Rattle.records.specs.Network.{network_of}
 use Rattle.numbering.specs.Numbering.{ncon}
 use Rattle.names.specs.Named.{row_named}
 use Rattle.numbering.proofs.Laid.{laid-ncon}
-use Rattle.numbering.proofs.OnePass.{pass-layout, pass-laid, pass-ncon}
+use Rattle.numbering.proofs.OnePass.{new-check, new-layout, new-laid, new-ncon}
 use Rattle.numbering.proofs.Names.{row-only}
-use Rattle.names.proofs.Answers.{row-stopped, row-past, row-given}
 use Rattle.names.proofs.named.row_name.Goals as goal
 
-pub returns-then-is_refused : goal.returns-then-is_refused
+pub returns-in_err-l : goal.returns-in_err-l
 unfolding row_named
-returns-then-is_refused c =
-    let p = c.check_layout-checked.ensures in
-    row-stopped _ _ _ c.no_row.ensures p.check (sym c.is_refused.ensures ∙ c.if-is_refused.true)
+returns-in_err-l c = answer_ended _ _ refl c.from_residual.ensures.1 (refused_by _ _ c.new.ensures c.in_err-l.was)
 
 pub row_count-requires : goal.row_count-requires
-row_count-requires c =
-    let p = c.check_layout-checked.ensures in
-    (pass-laid p (accepted-by p.check c.is_refused.ensures c.if-is_refused.false)).range
+row_count-requires c = (new-laid _ _ _ _ _ c.new.ensures c.in_ok-l.was).range
 
-pub returns-then-row_count-p : goal.returns-then-row_count-p
+pub returns-in_err-refuse_unless : goal.returns-in_err-refuse_unless
 unfolding row_named
-returns-then-row_count-p c =
-    let p = c.check_layout-checked.ensures in
-    let ok = accepted-by p.check c.is_refused.ensures c.if-is_refused.false in
-    row-past _ _ _ ok (omega (arith, c.row_count.ensures, pass-ncon p ok))
+returns-in_err-refuse_unless c =
+    let many = c.row_count.ensures ∙ new-ncon _ _ _ _ _ c.new.ensures c.in_ok-l.was in
+    answer_went_on _ _ refl (new-check _ _ _ _ _ c.new.ensures c.in_ok-l.was)
+    (ends _ c.from_residual-in_err-refuse_unless.ensures.1 c.in_err-refuse_unless.was (rw many at c.refuse_unless.ensures))
 
 pub row_at-requires : goal.row_at-requires
 row_at-requires c =
-    let p = c.check_layout-checked.ensures in
-    let ok = accepted-by p.check c.is_refused.ensures c.if-is_refused.false in
-    (pass-laid p ok, omega (arith, c.row_count.ensures, laid-ncon _ _ (pass-laid p ok)))
+    let it = new-laid _ _ _ _ _ c.new.ensures c.in_ok-l.was in
+    let many = c.row_count.ensures ∙ laid-ncon _ _ it in
+    (it, ltb-true _ _ (test-held _ _ (sym (rw many at c.refuse_unless.ensures) ∙ c.in_ok-refuse_unless.was)))
 
 pub returns : goal.returns
 unfolding row_named
 returns c =
-    let p = c.check_layout-checked.ensures in
-    let ok = accepted-by p.check c.is_refused.ensures c.if-is_refused.false in
     let a = c.args in
-    let below : a.p < ncon (network_of a.n a.m a.k a.s a.bytes.now) = omega (arith, c.row_count.ensures, pass-ncon p ok) in
-    row-given _ _ _ _ ok below (row-only _ _ below _ (rw (pass-layout p ok) at c.row_at.ensures))
+    let many = c.row_count.ensures ∙ new-ncon _ _ _ _ _ c.new.ensures c.in_ok-l.was in
+    let test = rw many at c.refuse_unless.ensures in
+    let below : a.p < ncon (network_of a.n a.m a.k a.s a.bytes.now) = ltb-true _ _ (test-held _ _ (sym test ∙ c.in_ok-refuse_unless.was)) in
+    answer_went_on _ _ refl (new-check _ _ _ _ _ c.new.ensures c.in_ok-l.was)
+    (went_on test c.in_ok-refuse_unless.was
+    (ap Ok (row-only _ _ below _ (rw (new-layout _ _ _ _ _ c.new.ensures c.in_ok-l.was) at c.row_at.ensures))))

@@ -1,16 +1,22 @@
--- `numbering::SocWrLayout::cones` meets its contract. Assumes nothing.
-use mathlib.Core.Path.{sym, ◌∙◌}
-use Rattle.refusals.proofs.Laws.{refuses, accepted-by, stopped, accepted-first}
+-- The layout's cause ends the entry, or the room decides.
+use Rattle.std.proofs.Common.{sym, ◌∙◌}
+use Rattle.refusals.proofs.Laws.{answer_ended, answer_went_on, left_ended, left_went_on}
 use Rattle.numbering.proofs.Layouts.{in_range}
 use Rattle.numbering.proofs.SocWrLayout.cones.Goals as goal
 
-pub returns-then-is_refused : goal.returns-then-is_refused
-returns-then-is_refused c =
-    let the_clauses = refuses (stopped _ c.cause-cause.ensures (sym c.is_refused.ensures ∙ c.if-is_refused.true)) c.is_refused.ensures 0 _ _ _ c.if-is_refused.true c.written_if.ensures in
-    record { value = the_clauses.0; out_after = the_clauses.1 }
+pub returns-in_err-cause : goal.returns-in_err-cause
+returns-in_err-cause c =
+    record {
+      value = answer_ended _ _ c.cause.ensures c.from_residual.ensures.1 c.in_err-cause.was;
+      out_after = left_ended c.cause.ensures _ _ _ c.in_err-cause.was;
+    }
 
 pub cones_in-requires : goal.cones_in-requires
-cones_in-requires c = in_range _ (accepted-by c.cause-cause.ensures c.is_refused.ensures c.if-is_refused.false)
+cones_in-requires c = in_range _ (sym c.cause.ensures ∙ c.in_ok-cause.was)
 
 pub returns : goal.returns
-returns c = simp (accepted-by c.cause-cause.ensures c.is_refused.ensures c.if-is_refused.false, accepted-first) c.cones_in.ensures
+returns c =
+    record {
+      value = answer_went_on _ _ c.cause.ensures c.in_ok-cause.was c.cones_in.ensures.value;
+      out_after = left_went_on c.cause.ensures _ _ _ c.in_ok-cause.was c.cones_in.ensures.out_after;
+    }

@@ -1,18 +1,14 @@
--- `numbering::SocWrLayout::n_ineq` meets its contract. Assumes nothing.
-use mathlib.Core.Path.{sym, ap, ◌∙◌}
-use Rattle.numbering.specs.declared.Lookup.TheVariants.{Number}
+-- The layout's cause ends the answer, or its size is the answer.
+use Rattle.std.proofs.Common.{sym, ap, ◌∙◌, Ok}
+use Rattle.refusals.proofs.Laws.{ends, went_on}
 use Rattle.numbering.proofs.Layouts.{in_range}
-use Rattle.numbering.proofs.Entered.{stopped-at, gone-on, answered}
 use Rattle.numbering.proofs.SocWrLayout.n_ineq.Goals as goal
 
-pub returns-then-is_refused : goal.returns-then-is_refused
-returns-then-is_refused c =
-    stopped-at _ c.refused.ensures c.cause-cause.ensures (sym c.is_refused.ensures ∙ c.if-is_refused.true)
+pub returns-in_err-cause : goal.returns-in_err-cause
+returns-in_err-cause c = ends _ c.from_residual.ensures.1 c.in_err-cause.was c.cause.ensures
 
 pub nonnegative_rows-requires : goal.nonnegative_rows-requires
-nonnegative_rows-requires c = in_range _ (gone-on c.cause-cause.ensures (sym c.is_refused.ensures ∙ c.if-is_refused.false))
+nonnegative_rows-requires c = in_range _ (sym c.cause.ensures ∙ c.in_ok-cause.was)
 
 pub returns : goal.returns
-returns c =
-    ap Number c.nonnegative_rows.ensures
-    ∙ answered _ (gone-on c.cause-cause.ensures (sym c.is_refused.ensures ∙ c.if-is_refused.false))
+returns c = went_on c.cause.ensures c.in_ok-cause.was (ap Ok c.nonnegative_rows.ensures)

@@ -1,16 +1,11 @@
--- `numbering::SocWrLayout::new` meets its contract. Assumes nothing.
-use mathlib.Core.Path.{sym, ◌∙◌}
-use Rattle.refusals.proofs.Laws.{accepted-by}
-use Rattle.numbering.specs.Layout.{counted_of}
-use Rattle.numbering.proofs.Entered.{layout-stopped, layout-given}
-use Rattle.numbering.proofs.OnePass.{pass-layout}
+-- The check's cause is passed on, or the layout is taken from its answer.
+use Rattle.std.proofs.Common.{sym, ap, Ok}
+use Rattle.refusals.proofs.Laws.{ends_by, went_on_by}
+use Rattle.numbering.specs.declared.CheckedLayout.{CheckedLayout}
 use Rattle.numbering.proofs.SocWrLayout.new.Goals as goal
 
-pub returns-then-is_refused : goal.returns-then-is_refused
-returns-then-is_refused c = layout-stopped (counted_of 0 0 0 0) _ c.no_layout.ensures c.check_layout-checked.ensures.check (sym c.is_refused.ensures ∙ c.if-is_refused.true)
+pub returns-in_err-check_layout : goal.returns-in_err-check_layout
+returns-in_err-check_layout c = ends_by _ _ c.check_layout.ensures _ c.from_residual.ensures.1 c.in_err-check_layout.was
 
 pub returns : goal.returns
-returns c =
-    let p = c.check_layout-checked.ensures in
-    let h = accepted-by p.check c.is_refused.ensures c.if-is_refused.false in
-    layout-given _ _ h (pass-layout p h)
+returns c = went_on_by _ _ c.check_layout.ensures c.in_ok-check_layout.was (λ e. sym (ap (λ (x : CheckedLayout). Ok x.layout) e))

@@ -1,38 +1,40 @@
--- `numbering::SocWrLayout::plain_row_lem` meets its contract: 1, then 7 past the block's length, and else the number. Assumes nothing.
-use mathlib.Core.Path.{sym, ◌∙◌}
-use native.Mathlib.Omega.{arith}
+-- 1, then 7 past the block's length, and else the number.
+use Rattle.std.proofs.Common.{◌<◌, sym, ap, ◌∙◌, arith, get_or, ltb-true, Ok}
+use Rattle.refusals.proofs.Laws.{ends, went_on, test-held}
 use Rattle.numbering.specs.Numbering.{jabr_rows}
-use Rattle.numbering.specs.Layout.{layout_rows}
+use Rattle.numbering.specs.Layout.{layout_rows, sizes_of}
 use Rattle.numbering.specs.Lookups.{in_layout}
 use Rattle.numbering.proofs.Layouts.{in_range}
-use Rattle.numbering.proofs.Entered.{stopped-at, gone-on, plain-past, plain-found, plain_rows, row-most}
+use Rattle.numbering.proofs.Entered.{plain-records, plain_rows, row-most}
 use Rattle.numbering.proofs.SocWrLayout.plain_row.Goals as goal
 
-pub returns-then-is_refused : goal.returns-then-is_refused
+pub returns-in_err-cause : goal.returns-in_err-cause
 unfolding in_layout
-returns-then-is_refused c =
-    stopped-at _ c.refused.ensures c.cause-cause.ensures (sym c.is_refused.ensures ∙ c.if-is_refused.true)
+returns-in_err-cause c = ends _ c.from_residual.ensures.1 c.in_err-cause.was c.cause.ensures
 
 pub row_sizes-sizes-requires : goal.row_sizes-sizes-requires
-row_sizes-sizes-requires c =
-    in_range _ (gone-on c.cause-cause.ensures (sym c.is_refused.ensures ∙ c.if-is_refused.false))
+row_sizes-sizes-requires c = in_range _ (sym c.cause.ensures ∙ c.in_ok-cause.was)
 
-pub returns-then-sizes-block : goal.returns-then-sizes-block
-returns-then-sizes-block c =
+pub returns-in_err-refuse_unless : goal.returns-in_err-refuse_unless
+unfolding in_layout
+returns-in_err-refuse_unless c =
     let a = c.args in
-    let ok = gone-on c.cause-cause.ensures (sym c.is_refused.ensures ∙ c.if-is_refused.false) in
-    plain-past a.self ok (layout_rows a.self) jabr_rows (plain_rows a.self) a.block a.i (omega arith)
-    (rw c.row_sizes-sizes.ensures at c.if-sizes-block.true)
+    let many = plain-records (layout_rows a.self) jabr_rows (plain_rows a.self) a.block (omega arith) in
+    went_on c.cause.ensures c.in_ok-cause.was
+    (ends _ c.from_residual-in_err-refuse_unless.ensures.1 c.in_err-refuse_unless.was (rw (c.row_sizes-sizes.ensures, many) at c.refuse_unless.ensures))
 
 pub row_at-requires : goal.row_at-requires
 row_at-requires c =
     let a = c.args in
-    let ok = in_range _ (gone-on c.cause-cause.ensures (sym c.is_refused.ensures ∙ c.if-is_refused.false)) in
-    let inside = rw c.row_sizes-sizes.ensures at c.if-sizes-block.false in record { in_range = ok; block_lt_jabr_rows = (omega arith, omega (arith, row-most a.self ok a.block)) }
+    let ok = in_range _ (sym c.cause.ensures ∙ c.in_ok-cause.was) in
+    let inside : a.i < get_or (sizes_of (layout_rows a.self)) a.block 0 =
+    ltb-true _ _ (test-held _ _ (sym (rw c.row_sizes-sizes.ensures at c.refuse_unless.ensures) ∙ c.in_ok-refuse_unless.was)) in
+    record { in_range = ok; block_lt_jabr_rows = (omega arith, omega (arith, row-most a.self ok a.block)) }
 
 pub returns : goal.returns
+unfolding in_layout
 returns c =
     let a = c.args in
-    let ok = gone-on c.cause-cause.ensures (sym c.is_refused.ensures ∙ c.if-is_refused.false) in
-    plain-found a.self ok (layout_rows a.self) jabr_rows (plain_rows a.self) a.block a.i (omega arith)
-    (rw c.row_sizes-sizes.ensures at c.if-sizes-block.false) c.row_at.ensures
+    let many = plain-records (layout_rows a.self) jabr_rows (plain_rows a.self) a.block (omega arith) in
+    went_on c.cause.ensures c.in_ok-cause.was
+    (went_on (rw (c.row_sizes-sizes.ensures, many) at c.refuse_unless.ensures) c.in_ok-refuse_unless.was (ap Ok c.row_at.ensures))

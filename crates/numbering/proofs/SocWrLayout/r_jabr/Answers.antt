@@ -1,28 +1,29 @@
--- `numbering::SocWrLayout::r_jabr` meets its contract. Assumes nothing.
-use mathlib.Core.Path.{sym, ◌∙◌}
-use native.Mathlib.Omega.{arith}
+-- 1, then 7 past the branches, and else the first of the branch's rows.
+use Rattle.std.proofs.Common.{sym, ap, ◌∙◌, arith, ltb-true, Ok}
+use Rattle.refusals.proofs.Laws.{ends, went_on, test-held}
+use Rattle.numbering.specs.Numbering.{row_table}
+use Rattle.numbering.specs.Layout.{layout_rows}
 use Rattle.numbering.specs.Lookups.{in_layout}
 use Rattle.numbering.proofs.Layouts.{in_range}
-use Rattle.numbering.proofs.Entered.{stopped-at, gone-on, jabr-past, jabr-found}
 use Rattle.numbering.proofs.SocWrLayout.r_jabr.Goals as goal
 
-pub returns-then-is_refused : goal.returns-then-is_refused
+pub returns-in_err-cause : goal.returns-in_err-cause
 unfolding in_layout
-returns-then-is_refused c =
-    stopped-at _ c.refused.ensures c.cause-cause.ensures (sym c.is_refused.ensures ∙ c.if-is_refused.true)
+returns-in_err-cause c = ends _ c.from_residual.ensures.1 c.in_err-cause.was c.cause.ensures
 
-pub returns-then-self-e : goal.returns-then-self-e
-returns-then-self-e c =
-    jabr-past c.args.self
-    (gone-on c.cause-cause.ensures (sym c.is_refused.ensures ∙ c.if-is_refused.false))
-    c.if-self-e.true
+pub returns-in_err-refuse_unless : goal.returns-in_err-refuse_unless
+unfolding in_layout layout_rows row_table
+returns-in_err-refuse_unless c =
+    went_on c.cause.ensures c.in_ok-cause.was
+    (ends _ c.from_residual-in_err-refuse_unless.ensures.1 c.in_err-refuse_unless.was c.refuse_unless.ensures)
 
 pub jabr_row-requires : goal.jabr_row-requires
 jabr_row-requires c =
-    let ok = in_range _ (gone-on c.cause-cause.ensures (sym c.is_refused.ensures ∙ c.if-is_refused.false)) in record { in_range = ok; e_le_m = (omega arith, omega arith) }
+    let inside = ltb-true _ _ (test-held _ _ (sym c.refuse_unless.ensures ∙ c.in_ok-refuse_unless.was)) in
+    record { in_range = in_range _ (sym c.cause.ensures ∙ c.in_ok-cause.was); e_le_m = (omega arith, omega arith) }
 
 pub returns : goal.returns
+unfolding in_layout layout_rows row_table
 returns c =
-    jabr-found c.args.self
-    (gone-on c.cause-cause.ensures (sym c.is_refused.ensures ∙ c.if-is_refused.false))
-    c.if-self-e.false c.jabr_row.ensures
+    went_on c.cause.ensures c.in_ok-cause.was
+    (went_on c.refuse_unless.ensures c.in_ok-refuse_unless.was (ap Ok c.jabr_row.ensures))

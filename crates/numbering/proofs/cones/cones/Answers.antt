@@ -1,21 +1,22 @@
--- `numbering::cones::cones` meets its contract. Assumes nothing.
-use mathlib.Core.Path.{sym, ◌∙◌}
-use Rattle.refusals.proofs.Laws.{refuses, accepted-by, stopped, accepted-first}
-use Rattle.numbering.proofs.OnePass.{pass-layout, pass-laid}
+-- The record check ends the entry, or the room decides on the network's layout.
+use Rattle.std.proofs.Common.{refl}
+use Rattle.refusals.proofs.Laws.{refused_by, answer_ended, answer_went_on, left_ended, left_went_on}
+use Rattle.numbering.proofs.OnePass.{new-check, new-layout, new-laid}
 use Rattle.numbering.proofs.cones.cones.Goals as goal
 
-pub returns-then-is_refused : goal.returns-then-is_refused
-returns-then-is_refused c =
-    let the_clauses = refuses (stopped _ c.check_layout-checked.ensures.check (sym c.is_refused.ensures ∙ c.if-is_refused.true)) c.is_refused.ensures 0 _ _ _ c.if-is_refused.true c.written_if.ensures in
-    record { value = the_clauses.0; out_after = the_clauses.1 }
+pub returns-in_err-new : goal.returns-in_err-new
+returns-in_err-new c =
+    let h = refused_by _ _ c.new.ensures c.in_err-new.was in
+    record {
+      value = answer_ended _ _ refl (c.from_residual.ensures.1) h;
+      out_after = left_ended refl _ _ _ h;
+    }
 
 pub cones_in-requires : goal.cones_in-requires
-cones_in-requires c =
-    let p = c.check_layout-checked.ensures in
-    (pass-laid p (accepted-by p.check c.is_refused.ensures c.if-is_refused.false)).range
+cones_in-requires c = (new-laid _ _ _ _ _ c.new.ensures c.in_ok-new.was).range
 
 pub returns : goal.returns
 returns c =
-    let p = c.check_layout-checked.ensures in
-    let h = accepted-by p.check c.is_refused.ensures c.if-is_refused.false in
-    simp (h, accepted-first) (rw (pass-layout p h) at c.cones_in.ensures)
+    let h = new-check _ _ _ _ _ c.new.ensures c.in_ok-new.was in
+    let e = rw (new-layout _ _ _ _ _ c.new.ensures c.in_ok-new.was) at c.cones_in.ensures in
+    record { value = answer_went_on _ _ refl h e.value; out_after = left_went_on refl _ _ _ h e.out_after }

@@ -1,16 +1,22 @@
--- `program::sized::put_b` meets its contract. Assumes nothing.
-use mathlib.Core.Path.{refl, sym, ◌∙◌}
-use native.Mathlib.Omega.{arith}
+-- 10 where the list is too short, and else written.
+use Rattle.std.proofs.Common.{refl, sym, ◌∙◌, arith}
+use Rattle.refusals.proofs.Laws.{has_room}
 use Rattle.sides.proofs.RightSide.{right-length}
 use Rattle.program.proofs.Answers.{floats_short, floats_written}
 use Rattle.program.proofs.sized.put_b.Goals as goal
 
-pub returns-then-b-need : goal.returns-then-b-need
-returns-then-b-need c =
-    let h = right-length c.args.l c.args.bytes.now c.requires in
-    floats_short refl (c.row_count-need.ensures ∙ sym h) c.if-b-need.true
+pub returns-in_err-room_for : goal.returns-in_err-room_for
+returns-in_err-room_for c =
+    let need = c.row_count-need.ensures ∙ sym (right-length c.args.l c.args.bytes.now c.requires) in
+    floats_short refl need c.room_for.ensures c.in_err-room_for.was c.from_residual.ensures.1
+
+pub fill_b-requires : goal.fill_b-requires
+fill_b-requires c =
+    let room = has_room _ _ (sym c.room_for.ensures ∙ c.in_ok-room_for.was) in
+    record { laid = c.requires; l_in_bounds = omega (arith, room, c.row_count-need.ensures) }
 
 pub returns : goal.returns
 returns c =
-    let h = right-length c.args.l c.args.bytes.now c.requires in
-    floats_written refl (c.row_count-need.ensures ∙ sym h) (omega (arith, h, c.row_count-need.ensures, c.if-b-need.false)) c.fill_b.ensures
+    let need = c.row_count-need.ensures ∙ sym (right-length c.args.l c.args.bytes.now c.requires) in
+    let room = has_room _ _ (sym c.room_for.ensures ∙ c.in_ok-room_for.was) in
+    floats_written refl need (omega (arith, need, room)) c.fill_b.ensures

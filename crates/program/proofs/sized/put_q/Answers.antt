@@ -1,16 +1,22 @@
--- `program::sized::put_q` meets its contract. Assumes nothing.
-use mathlib.Core.Path.{refl, sym, ◌∙◌}
-use native.Mathlib.Omega.{arith}
+-- 10 where the list is too short, and else written.
+use Rattle.std.proofs.Common.{refl, sym, ◌∙◌, arith}
+use Rattle.refusals.proofs.Laws.{has_room}
 use Rattle.quadratic.proofs.Linear.{linear-length}
 use Rattle.program.proofs.Answers.{floats_short, floats_written}
 use Rattle.program.proofs.sized.put_q.Goals as goal
 
-pub returns-then-q-need : goal.returns-then-q-need
-returns-then-q-need c =
-    let h = linear-length c.args.l c.args.bytes.now c.requires in
-    floats_short refl (c.column_count-need.ensures ∙ sym h) c.if-q-need.true
+pub returns-in_err-room_for : goal.returns-in_err-room_for
+returns-in_err-room_for c =
+    let need = c.column_count-need.ensures ∙ sym (linear-length c.args.l c.args.bytes.now c.requires) in
+    floats_short refl need c.room_for.ensures c.in_err-room_for.was c.from_residual.ensures.1
+
+pub fill_q-requires : goal.fill_q-requires
+fill_q-requires c =
+    let room = has_room _ _ (sym c.room_for.ensures ∙ c.in_ok-room_for.was) in
+    record { laid = c.requires; l_in_bounds = omega (arith, room, c.column_count-need.ensures) }
 
 pub returns : goal.returns
 returns c =
-    let h = linear-length c.args.l c.args.bytes.now c.requires in
-    floats_written refl (c.column_count-need.ensures ∙ sym h) (omega (arith, h, c.column_count-need.ensures, c.if-q-need.false)) c.fill_q.ensures
+    let need = c.column_count-need.ensures ∙ sym (linear-length c.args.l c.args.bytes.now c.requires) in
+    let room = has_room _ _ (sym c.room_for.ensures ∙ c.in_ok-room_for.was) in
+    floats_written refl need (omega (arith, need, room)) c.fill_q.ensures

@@ -1,13 +1,11 @@
 -- `quadratic::inner::fill_p` meets its contract: the columns before pg, those of pg, and those behind, which are all of P. Assumes nothing.
-use mathlib.Core.List.{List, []}
-use native.Mathlib.Omega.{arith}
-use lib.ListN.{length-append}
+use Rattle.std.proofs.Common.{List, [], arith, length-append}
 use Rattle.lists.specs.UpTo.{listed}
 use Rattle.lists.specs.Entries.{Cell}
 use Rattle.numbering.specs.Layout.{layout_column}
 use Rattle.numbering.specs.declared.ColumnName.TheVariants.{Pg}
 use Rattle.numbering.proofs.Numbers.{layout-column, layout-nvar, numbers-few}
-use Rattle.cells.proofs.Fills.{listed-length}
+use Rattle.lists.proofs.Listed.{listed-length}
 use Rattle.cells.proofs.Ends.{columns-then, empty_columns}
 use Rattle.quadratic.specs.Quadratic.{quad_cells}
 use Rattle.quadratic.proofs.Quad.{quad_parts}
@@ -37,6 +35,10 @@ returns c =
     let before = listed-length (λ c. empty_column) (layout_column l (Pg 0)) in
     let quad = listed-length (quad_cells l b) l.k in
     let both = length-append (listed (layout_column l (Pg 0)) (λ c. empty_column)) (listed l.k (quad_cells l b)) in
-    let empty = empty_columns _ (rw (c.pg_column-pg.ensures, c.store_u32.ensures) at c.put_empty.ensures) in
+    let empty = empty_columns _ (rw (c.pg_column-pg.ensures, c.store.ensures) at c.put_empty.ensures) in
     let others = empty_columns _ (rw (c.column_count.ensures, c.pg_column-behind.ensures) at c.put_empty-2.ensures) in
-    record { columns = rw (quad_parts l b c.requires) (columns-then (columns-then empty (omega arith) c.put_quads-next.ensures.columns) (omega (arith, layout-column l (Pg 0), layout-column l (Pg l.k))) others) }
+    record {
+      columns = rw (quad_parts l b c.requires)
+          (columns-then (columns-then empty (omega arith) c.put_quads-next.ensures.columns)
+          (omega (arith, layout-column l (Pg 0), layout-column l (Pg l.k))) others);
+    }

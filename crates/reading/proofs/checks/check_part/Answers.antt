@@ -1,23 +1,27 @@
--- `reading::checks::check_part` meets its contract: a refused record check is the answer; else it passed, and the test of x's length is. Assumes nothing.
-use mathlib.Core.Path.{sym, ◌∙◌}
-use Rattle.refusals.proofs.Laws.{accepted-by, stopped, went_on}
-use Rattle.numbering.proofs.OnePass.{pass-layout, pass-laid}
+-- The record check's cause, or 6, or else the layout.
+use Rattle.std.proofs.Common.{refl, ap, Ok}
+use Rattle.refusals.proofs.Laws.{ends, went_on, refused_by, answer_ended, answer_went_on}
+use Rattle.numbering.proofs.OnePass.{new-check, new-layout, new-laid}
 use Rattle.reading.specs.Reading.{part_check}
 use Rattle.reading.proofs.checks.check_part.Goals as goal
 
-pub returns-then-is_refused : goal.returns-then-is_refused
+pub returns-in_err-l : goal.returns-in_err-l
 unfolding part_check
-returns-then-is_refused c =
-    let p = c.check_layout-checked.ensures in record { check_value = stopped _ p.check (sym c.is_refused.ensures ∙ c.if-is_refused.true); layout_value = p.layout }
+returns-in_err-l c = answer_ended _ _ refl c.from_residual.ensures.1 (refused_by _ _ c.new.ensures c.in_err-l.was)
 
 pub x_cause-requires : goal.x_cause-requires
-x_cause-requires c =
-    let p = c.check_layout-checked.ensures in
-    pass-laid p (accepted-by p.check c.is_refused.ensures c.if-is_refused.false)
+x_cause-requires c = new-laid _ _ _ _ _ c.new.ensures c.in_ok-l.was
+
+pub returns-in_err-x_cause : goal.returns-in_err-x_cause
+unfolding part_check
+returns-in_err-x_cause c =
+    let net = new-layout _ _ _ _ _ c.new.ensures c.in_ok-l.was in
+    answer_went_on _ _ refl (new-check _ _ _ _ _ c.new.ensures c.in_ok-l.was)
+    (ends _ c.from_residual-in_err-x_cause.ensures.1 c.in_err-x_cause.was (rw net at c.x_cause.ensures))
 
 pub returns : goal.returns
 unfolding part_check
 returns c =
-    let p = c.check_layout-checked.ensures in
-    let q = c.is_refused.ensures in
-    let h = c.if-is_refused.false in record { check_value = went_on p.check (sym q ∙ h) (rw (pass-layout p (accepted-by p.check q h)) at c.x_cause.ensures); layout_value = p.layout }
+    let net = new-layout _ _ _ _ _ c.new.ensures c.in_ok-l.was in
+    answer_went_on _ _ refl (new-check _ _ _ _ _ c.new.ensures c.in_ok-l.was)
+    (went_on (rw net at c.x_cause.ensures) c.in_ok-x_cause.was (ap Ok net))

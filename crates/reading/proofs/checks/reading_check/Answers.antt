@@ -1,23 +1,16 @@
--- `reading::checks::reading_check` meets its contract. Assumes nothing.
-use mathlib.Core.Path.{sym, ◌∙◌}
-use Rattle.refusals.proofs.Laws.{accepted-by, stopped, went_on}
-use Rattle.numbering.proofs.OnePass.{pass-layout, pass-laid}
+-- The record check's cause, or else 6.
+use Rattle.refusals.proofs.Laws.{ends_by, went_on_by}
+use Rattle.numbering.proofs.OnePass.{new-layout, new-laid}
 use Rattle.reading.specs.Reading.{reading_check}
 use Rattle.reading.proofs.checks.reading_check.Goals as goal
 
-pub returns-then-is_refused : goal.returns-then-is_refused
+pub returns-in_err-l : goal.returns-in_err-l
 unfolding reading_check
-returns-then-is_refused c = stopped _ c.check_layout-checked.ensures.check (sym c.is_refused.ensures ∙ c.if-is_refused.true)
+returns-in_err-l c = ends_by _ _ c.new.ensures _ c.from_residual.ensures.1 c.in_err-l.was
 
 pub solution_cause-requires : goal.solution_cause-requires
-solution_cause-requires c =
-    let p = c.check_layout-checked.ensures in
-    pass-laid p (accepted-by p.check c.is_refused.ensures c.if-is_refused.false)
+solution_cause-requires c = new-laid _ _ _ _ _ c.new.ensures c.in_ok-l.was
 
 pub returns : goal.returns
 unfolding reading_check
-returns c =
-    let p = c.check_layout-checked.ensures in
-    let q = c.is_refused.ensures in
-    let h = c.if-is_refused.false in
-    went_on p.check (sym q ∙ h) (rw (pass-layout p (accepted-by p.check q h)) at c.solution_cause.ensures)
+returns c = went_on_by _ _ c.new.ensures c.in_ok-l.was (λ e. rw (new-layout _ _ _ _ _ c.new.ensures c.in_ok-l.was) at c.solution_cause.ensures)

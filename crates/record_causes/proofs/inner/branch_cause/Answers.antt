@@ -1,21 +1,20 @@
--- `record_causes::inner::branch_cause` meets its contract. Assumes nothing.
-use mathlib.Core.Path.{refl, sym, ◌∙◌}
-use Rattle.refusals.proofs.Laws.{first-failed, first-held}
+-- The first cause that is found ends the check; where none is, the rest of it is the answer.
 use Rattle.records.specs.Check.{branch_cause}
+use Rattle.refusals.proofs.Laws.{ends, went_on}
 use Rattle.record_causes.proofs.inner.branch_cause.Goals as goal
 
-pub returns-then-not-branch_form : goal.returns-then-not-branch_form
+pub returns-in_err-refuse_unless : goal.returns-in_err-refuse_unless
 unfolding branch_cause
-returns-then-not-branch_form c = first-failed _ (sym c.branch_form.ensures ∙ c.if-not-branch_form.true) refl
+returns-in_err-refuse_unless c = ends _ c.from_residual.ensures.1 c.in_err-refuse_unless.was (rw c.branch_form.ensures at c.refuse_unless.ensures)
 
-pub returns-then-not-both : goal.returns-then-not-both
+pub returns-in_err-refuse_unless-2 : goal.returns-in_err-refuse_unless-2
 unfolding branch_cause
-returns-then-not-both c =
-    first-held _ (sym c.branch_form.ensures ∙ c.if-not-branch_form.false)
-    (first-failed _ (rw (← c.br_from-from.ensures, ← c.br_to-to.ensures) (c.if-not-both.true)) refl)
+returns-in_err-refuse_unless-2 c =
+    went_on (rw c.branch_form.ensures at c.refuse_unless.ensures) c.in_ok-refuse_unless.was
+    (ends _ c.from_residual-in_err-refuse_unless-2.ensures.1 c.in_err-refuse_unless-2.was (rw (c.br_from-from.ensures, c.br_to-to.ensures) at c.refuse_unless-2.ensures))
 
 pub returns : goal.returns
 unfolding branch_cause
 returns c =
-    first-held _ (sym c.branch_form.ensures ∙ c.if-not-branch_form.false)
-    (first-held _ (rw (← c.br_from-from.ensures, ← c.br_to-to.ensures) (c.if-not-both.false)) (cc c.refuse_unless.ensures))
+    went_on (rw c.branch_form.ensures at c.refuse_unless.ensures) c.in_ok-refuse_unless.was
+    (went_on (rw (c.br_from-from.ensures, c.br_to-to.ensures) at c.refuse_unless-2.ensures) c.in_ok-refuse_unless-2.was (cc c.refuse_unless-3.ensures))

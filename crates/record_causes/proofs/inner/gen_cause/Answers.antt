@@ -1,14 +1,12 @@
--- `record_causes::inner::gen_cause` meets its contract. Assumes nothing.
-use mathlib.Core.Path.{refl, sym, ◌∙◌}
-use Rattle.refusals.proofs.Laws.{first-failed, first-held}
+-- The first cause that is found ends the check; where none is, the rest of it is the answer.
 use Rattle.records.specs.Check.{gen_cause}
+use Rattle.refusals.proofs.Laws.{ends, went_on}
 use Rattle.record_causes.proofs.inner.gen_cause.Goals as goal
 
-pub returns-then-not-gen_form : goal.returns-then-not-gen_form
+pub returns-in_err-refuse_unless : goal.returns-in_err-refuse_unless
 unfolding gen_cause
-returns-then-not-gen_form c = first-failed _ (sym c.gen_form.ensures ∙ c.if-not-gen_form.true) refl
+returns-in_err-refuse_unless c = ends _ c.from_residual.ensures.1 c.in_err-refuse_unless.was (rw c.gen_form.ensures at c.refuse_unless.ensures)
 
 pub returns : goal.returns
 unfolding gen_cause
-returns c =
-    first-held _ (sym c.gen_form.ensures ∙ c.if-not-gen_form.false) (cc c.refuse_unless.ensures)
+returns c = went_on (rw c.gen_form.ensures at c.refuse_unless.ensures) c.in_ok-refuse_unless.was (cc c.refuse_unless-2.ensures)

@@ -1,35 +1,34 @@
-use mathlib.Core.Path.{sym, ◌∙◌}
-use native.Mathlib.Omega.{arith}
-use Prim.Native.Nat.{◌≤◌}
-use lib.ListN.{length}
-use lib.Seq.{length-take-le}
-use Rattle.refusals.proofs.Laws.{accepted-by, refuses, writes}
+-- Refused, the list stays as it was; else the residual stands at its front.
+use Rattle.std.proofs.Common.{sym, ap, ◌∙◌, ◌≤◌, length, arith, Ok, length-take-le}
+use Rattle.refusals.proofs.Laws.{ends, left_stopped, left-front, answer-held}
 use Rattle.residual.proofs.Fits.{residual-ready}
 use Rattle.residual.proofs.residuals.residual.Goals as goal
 
-pub returns-then-is_refused : goal.returns-then-is_refused
-returns-then-is_refused c =
-    let the_clauses = refuses c.residual_check-check.ensures c.is_refused.ensures _ _ _ _ c.if-is_refused.true c.written_if.ensures in
-    record { value = the_clauses.0; out_after = the_clauses.1 }
+pub returns-in_err-residual_check : goal.returns-in_err-residual_check
+returns-in_err-residual_check c =
+    let e = c.residual_check.ensures in
+    let h = c.in_err-residual_check.was in
+    record { value = ends _ c.from_residual.ensures.1 h e; out_after = left_stopped e _ _ h }
 
 pub slice_bounds-part-end : goal.slice_bounds-part-end
 slice_bounds-part-end c =
-    let f = residual-ready (accepted-by c.residual_check-check.ensures c.is_refused.ensures c.if-is_refused.false) in
+    let f = residual-ready (sym c.residual_check.ensures ∙ c.in_ok-residual_check.was) in
     omega arith
 
 pub slice_bounds-part-end-2 : goal.slice_bounds-part-end-2
 slice_bounds-part-end-2 c =
-    let f = residual-ready (accepted-by c.residual_check-check.ensures c.is_refused.ensures c.if-is_refused.false) in
+    let f = residual-ready (sym c.residual_check.ensures ∙ c.in_ok-residual_check.was) in
     sym (length-take-le _ _ (omega arith))
 
 pub residual_into-requires : goal.residual_into-requires
 residual_into-requires c =
-    let f = residual-ready (accepted-by c.residual_check-check.ensures c.is_refused.ensures c.if-is_refused.false) in
+    let f = residual-ready (sym c.residual_check.ensures ∙ c.in_ok-residual_check.was) in
     let l : length c.args.rhs.now ≤ length c.args.out.now = omega arith in
     (f.fits, length-take-le _ _ l ∙ f.has.rhs-size)
 
 pub returns : goal.returns
 returns c =
-    let f = residual-ready (accepted-by c.residual_check-check.ensures c.is_refused.ensures c.if-is_refused.false) in
-    let the_clauses = writes c.residual_check-check.ensures c.is_refused.ensures _ _ _ c.if-is_refused.false c.residual_into.ensures.0 c.residual_into.ensures.1 f.has.rhs-size in
-    record { value = the_clauses.0; out_after = the_clauses.1 }
+    let h = sym c.residual_check.ensures ∙ c.in_ok-residual_check.was in
+    let size = (residual-ready h).has.rhs-size in
+    let w = c.residual_into.ensures in
+    record { value = ap Ok size ∙ sym (answer-held _ h); out_after = left-front _ _ h w.0 (w.1 ∙ sym size) }

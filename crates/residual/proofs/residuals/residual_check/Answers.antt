@@ -1,15 +1,19 @@
-use mathlib.Core.Path.{refl, sym, ◌∙◌}
-use Rattle.refusals.proofs.Laws.{first-held, first-failed}
+-- Lists that don't fit end the check, or the room decides.
+use Rattle.std.proofs.Common.{sym, ◌∙◌}
+use Rattle.refusals.proofs.Laws.{ends, went_on, test-held}
 use Rattle.residual.specs.Checks.{residual_check}
 use Rattle.residual.proofs.Fits.{resided}
 use Rattle.residual.proofs.residuals.residual_check.Goals as goal
 
-pub returns-then-residual_fits : goal.returns-then-residual_fits
+pub returns-in_err-refuse_unless : goal.returns-in_err-refuse_unless
 unfolding residual_check
-returns-then-residual_fits c =
-    let h = sym c.residual_fits.ensures ∙ c.if-residual_fits.true in
-    first-held _ h (rw (← (resided _ _ _ _ _ _ _ h).rhs-size) c.room_for.ensures)
+returns-in_err-refuse_unless c =
+    let fits = rw c.residual_fits-fits.ensures at c.refuse_unless.ensures in
+    ends _ c.from_residual.ensures.1 c.in_err-refuse_unless.was fits
 
 pub returns : goal.returns
 unfolding residual_check
-returns c = first-failed _ (sym c.residual_fits.ensures ∙ c.if-residual_fits.false) refl
+returns c =
+    let fits = rw c.residual_fits-fits.ensures at c.refuse_unless.ensures in
+    let f = resided _ _ _ _ _ _ _ (test-held _ _ (sym fits ∙ c.in_ok-refuse_unless.was)) in
+    went_on fits c.in_ok-refuse_unless.was (rw f.rhs-size at c.room_for.ensures)

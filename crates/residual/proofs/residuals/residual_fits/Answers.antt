@@ -1,5 +1,4 @@
-use mathlib.Core.Path.{sym, ◌∙◌}
-use native.Mathlib.Omega.{arith}
+use Rattle.std.proofs.Common.{sym, ◌∙◌, arith}
 use Rattle.residual.specs.Checks.{residual_fits}
 use Rattle.sparse.proofs.Fits.{bounds, size}
 use Rattle.residual.proofs.residuals.residual_fits.Goals as goal

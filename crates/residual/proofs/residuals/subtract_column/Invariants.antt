@@ -1,9 +1,6 @@
 -- `residual::residuals::subtract_column` meets its contract. Assumes nothing.
-use Prim.Native.Nat.{◌*◌, ◌≤◌, ◌-◌}
-use mathlib.Core.Path.{◌≡◌}
-use mathlib.Core.List.{[], ◌∷◌}
-use lib.ListN.{length, get_or}
-use lib.Ieee.{nan}
+use Rattle.std.proofs.Common.{◌*◌, ◌≤◌, ◌-◌, ◌≡◌, [], ◌∷◌, length, get_or}
+use Rattle.std.specs.Float.{nan}
 use Rattle.lists.specs.UpTo.{each}
 use Rattle.lists.specs.Entries.{entry}
 use Rattle.lists.specs.Steps.{through}

@@ -1,4 +1,3 @@
-use Prim.Native.Nat.{◌-◌}
 use mathlib.Core.Path.{◌≡◌, refl}
 use native.Mathlib.Omega.{arith}
 use Rattle.lists.specs.Entries.{entry}
@@ -10,7 +9,8 @@ pub loop-d-init : goal.loop-d-init
 loop-d-init c = (omega arith, refl, over_none _ _ _)
 
 pub loop-d-preserved : goal.loop-d-preserved
-loop-d-preserved c = (omega arith, omega arith, over-next (subtract_entry c.args.dim c.args.columns c.args.answer.now) (λ k. entry k k c.args.eps) _ _ _ _ c.loop-d.invariant.2 c.subtract_entry.ensures)
+loop-d-preserved c =
+    (omega arith, omega arith, over-next (subtract_entry c.args.dim c.args.columns c.args.answer.now) (λ k. entry k k c.args.eps) _ _ _ _ c.loop-d.invariant.2 c.subtract_entry.ensures)
 
 pub returns : goal.returns
 unfolding subtract_entries diagonal

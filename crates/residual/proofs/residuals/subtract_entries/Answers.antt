@@ -1,5 +1,4 @@
 -- `residual::residuals::subtract_entries` meets its contract. Assumes nothing.
-use Prim.Native.Nat.{◌-◌}
 use mathlib.Core.Path.{◌≡◌, refl, ◌∙◌}
 use native.Mathlib.Omega.{arith}
 use Rattle.lists.proofs.Steps.{turns-none, turns_next}

@@ -1,4 +1,3 @@
-use Prim.Native.Nat.{◌-◌}
 use mathlib.Core.Path.{◌≡◌, refl}
 use native.Mathlib.Nat.{zero-mul}
 use native.Mathlib.Omega.{arith}
@@ -39,8 +38,13 @@ overflow_add-from c = omega (arith, inside _ _ _ _ c.loop-c-test.true c.requires
 pub loop-c-preserved : goal.loop-c-preserved
 unfolding subtract_at
 loop-c-preserved c =
-    let n = next-column c.loop-c.c c.args.dim in
-    (omega arith, simp length-set (omega arith), omega arith, omega arith, turns_next (subtract_at c.args.dim c.args.answer.now (entry c.args.row c.args.col c.args.value)) _ _ _ _ c.loop-c.invariant.4 (rw (c.loop-c.invariant.2, c.loop-c.invariant.3)))
+    let n = next-column c.loop-c.c c.args.dim in (
+      omega arith,
+      simp length-set (omega arith),
+      omega arith,
+      omega arith,
+      turns_next (subtract_at c.args.dim c.args.answer.now (entry c.args.row c.args.col c.args.value)) _ _ _ _ c.loop-c.invariant.4 (rw (c.loop-c.invariant.2, c.loop-c.invariant.3)),
+    )
 
 pub returns : goal.returns
 unfolding subtract_entry

@@ -1,5 +1,5 @@
 -- `sides::inner::fill_b` meets its contract: it writes every block's run, and these are b. Assumes nothing.
-use native.Mathlib.Omega.{arith}
+use Rattle.std.proofs.Common.{arith}
 use Rattle.numbering.specs.declared.RowName.TheVariants.{Segment, Jabr}
 use Rattle.numbering.proofs.Numbers.{layout_row_lem, layout-ncon}
 use Rattle.cells.proofs.Fills.{kept-length}
@@ -8,19 +8,14 @@ use Rattle.cells.proofs.Runs.{one-run, ◌then_runs◌, runs_length}
 use Rattle.sides.proofs.RightSide.{right_runs}
 use Rattle.sides.proofs.inner.fill_b.Goals as goal
 
-pub fill_ohms-requires : goal.fill_ohms-requires
-fill_ohms-requires c = record { in_range = c.requires.laid.range; l_in_bounds = omega (arith, c.requires.l_in_bounds, runs_length c.fill_buses.ensures) }
-
-pub fill_capabilities-requires : goal.fill_capabilities-requires
-fill_capabilities-requires c = record { laid = c.requires.laid; l_in_bounds = omega (arith, c.requires.l_in_bounds, runs_length c.fill_buses.ensures, runs_length c.fill_ohms.ensures) }
-
 pub fill_intercepts-requires : goal.fill_intercepts-requires
 fill_intercepts-requires c =
     let l = c.args.l in
     let first = c.segment_row-cost.ensures in
     let x = runs_length c.fill_buses.ensures in
     let y = runs_length c.fill_ohms.ensures in
-    let z = runs_length c.fill_capabilities.ensures in record { count_in_bounds = rw c.requires.laid.accepted.size (omega arith); count_in_bounds_2 = omega (arith, c.requires.l_in_bounds, first, layout_row_lem l (Segment 0 0), layout-ncon l) }
+    let z = runs_length c.fill_capabilities.ensures in
+    record { count_in_bounds = rw c.requires.laid.accepted.size (omega arith); count_in_bounds_2 = omega (arith, c.requires.l_in_bounds, first, layout_row_lem l (Segment 0 0), layout-ncon l) }
 
 pub fill_all-requires : goal.fill_all-requires
 fill_all-requires c =
@@ -31,14 +26,6 @@ fill_all-requires c =
     let y = runs_length c.fill_capabilities.ensures in
     let z = kept-length c.fill_intercepts.ensures in
     omega (arith, c.requires.l_in_bounds, first, layout_row_lem l (Jabr 0 0), layout-ncon l)
-
-pub fill_branches-requires : goal.fill_branches-requires
-fill_branches-requires c =
-    let v = runs_length c.fill_buses.ensures in
-    let w = runs_length c.fill_ohms.ensures in
-    let x = runs_length c.fill_capabilities.ensures in
-    let y = kept-length c.fill_intercepts.ensures in
-    let z = kept-length c.fill_all.ensures in record { laid = c.requires.laid; l_in_bounds = omega (arith, c.requires.l_in_bounds) }
 
 pub returns : goal.returns
 unfolding zero_run segment_run

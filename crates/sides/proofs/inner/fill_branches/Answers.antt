@@ -1,8 +1,5 @@
 -- `sides::inner::fill_branches` meets its contract: each turn writes an element of angub and of anglb, and a limited branch's six behind them. Assumes nothing.
-use Prim.Native.Nat.{◌-◌}
-use mathlib.Core.Path.{◌≡◌, refl, ap, ◌∙◌}
-use native.Mathlib.Omega.{arith}
-use lib.ListN.{length, length-append, length-set}
+use Rattle.std.proofs.Common.{◌≡◌, ap, ◌∙◌, arith, length, length-append, length-set}
 use Rattle.lists.specs.UpTo.{up_to, each, when}
 use Rattle.lists.proofs.Each.{each_more}
 use Rattle.numbering.specs.declared.RowName.TheVariants.{Angub, Anglb, Thermal}
@@ -22,13 +19,13 @@ loop-e-init c =
     let q = layout_row_lem l (Anglb 0) in
     let t = layout_row_lem l (Thermal 0 0) in
     let e = layout-ncon l in
-    (omega arith, refl, (omega arith, omega arith, omega arith), behind-none _ _ _ _ (omega arith), omega arith)
-
-pub bounds-out-angub : goal.bounds-out-angub
-bounds-out-angub c = omega (arith, behind-length c.loop-e.invariant.3)
-
-pub bounds-out-anglb : goal.bounds-out-anglb
-bounds-out-anglb c = simp length-set (omega (arith, behind-length c.loop-e.invariant.3))
+    record {
+      first = omega arith;
+      second = omega arith;
+      third = omega arith;
+      behind = behind-none _ _ _ _ (omega arith);
+      stop = omega arith;
+    }
 
 pub put_rating-next-requires : goal.put_rating-next-requires
 unfolding ratings_at b
@@ -36,7 +33,7 @@ put_rating-next-requires c =
     let a = c.args in
     let o = c.loop-e in
     let h : when c.thermal_limit_active-on.result (rating_sides c.rating-rate_a.result) ≡ ratings_at a.l a.bytes.now o.e = cc in
-    simp length-set (omega (arith, ap length h, behind-length o.invariant.3, ratings_room a.l a.bytes.now c.requires.laid o.e (omega arith)))
+    simp length-set (omega (arith, ap length h, behind-length o.invariant.behind, ratings_room a.l a.bytes.now c.requires.laid o.e (omega arith)))
 
 pub loop-e-preserved : goal.loop-e-preserved
 unfolding ratings_at b
@@ -49,19 +46,17 @@ loop-e-preserved c =
     let g = side_at a.l a.bytes.now in
     let v = c.angle_rhs-v.ensures in
     let h : when c.thermal_limit_active-on.result (rating_sides c.rating-rate_a.result) ≡ f e = cc in
-    let x : Filled (f e) _ _ _ = rw h at w.filled in (
-      omega arith,
-      o.1,
-      o.2,
-      behind_more (g Angub) (g Anglb) f o.3 (omega arith) o.2.0 o.2.1 v.value v.value_2 o.4 x,
-      w.value ∙ omega (arith, ap length h, o.4, ap length (each_more f e), length-append (each e f) (f e)),
-    )
-
-pub shape_of-out : goal.shape_of-out
-shape_of-out c = behind-length c.loop-e.invariant.3
+    let x : Filled (f e) _ _ _ = rw h at w.filled in
+    record {
+      first = o.first;
+      second = o.second;
+      third = o.third;
+      behind = behind_more (g Angub) (g Anglb) f o.behind (omega arith) o.first o.second v.value v.value_2 o.stop x;
+      stop = w.value ∙ omega (arith, ap length h, o.stop, ap length (each_more f e), length-append (each e f) (f e));
+    }
 
 pub returns : goal.returns
 unfolding block_run thermal_run
 returns c =
     let o = c.loop-e.invariant in
-    rw (← c.angub_row-angub.ensures, ← c.anglb_row-anglb.ensures, ← c.thermal_row-next.ensures, ← o.1) (behind-all _ _ _ (omega arith) o.3)
+    rw (← c.angub_row-angub.ensures, ← c.anglb_row-anglb.ensures, ← c.thermal_row-next.ensures) (behind-all _ _ _ (omega arith) o.behind)

@@ -1,20 +1,18 @@
 -- `sides::inner::fill_capabilities` meets its contract: each turn writes one element of each of the four blocks, which lie behind each other where the
 -- layout says. Assumes nothing.
-use Prim.Native.Nat.{◌≤◌, ◌+◌, ◌-◌}
-use mathlib.Core.Path.{refl}
-use native.Mathlib.Omega.{arith}
-use lib.ListN.{length-set}
+use Rattle.std.proofs.Common.{◌≤◌, ◌+◌, arith}
 use Rattle.numbering.specs.Layout.{layout_row, ncon_of}
 use Rattle.numbering.specs.declared.SocWrLayout.{SocWrLayout}
 use Rattle.numbering.specs.declared.RowName.TheVariants.{Pgub, Pglb, Qgub, Qglb}
 use Rattle.numbering.proofs.Numbers.{layout_row_lem, layout-ncon}
 use Rattle.sides.specs.Sides.{pgub, pglb, qgub, qglb, side_at, block_run}
-use Rattle.sides.proofs.Across.{across_none, across_four, across_length, across_all}
+use Rattle.sides.proofs.Across.{across_none, across_four, across_all}
 use Rattle.sides.proofs.inner.fill_capabilities.Goals as goal
 
 -- the blocks lie behind each other, and end among all rows
-order : (l : SocWrLayout) → (layout_row l (Pgub 0) + l.k ≤ layout_row l (Pglb 0)) × (layout_row l (Pglb 0) + l.k ≤ layout_row l (Qgub 0)) × (layout_row l (Qgub 0) + l.k ≤ layout_row l (Qglb 0))
-    × (layout_row l (Qglb 0) + l.k ≤ ncon_of l)
+order : (l : SocWrLayout)
+    → (layout_row l (Pgub 0) + l.k ≤ layout_row l (Pglb 0)) × (layout_row l (Pglb 0) + l.k ≤ layout_row l (Qgub 0))
+    × (layout_row l (Qgub 0) + l.k ≤ layout_row l (Qglb 0)) × (layout_row l (Qglb 0) + l.k ≤ ncon_of l)
 order l = simp (layout_row_lem l, layout-ncon l) (omega arith, omega arith, omega arith, omega arith)
 
 pub loop-g-init : goal.loop-g-init
@@ -24,31 +22,25 @@ loop-g-init c =
     let q = c.pglb_row-pglb.ensures in
     let u = c.qgub_row-qgub.ensures in
     let v = c.qglb_row-qglb.ensures in
-    (omega arith, refl, (rw (p, q) o.0, rw (q, u) o.1, rw (u, v) o.2, rw v (omega arith)), across_none _ _ (omega arith, (rw (p, q) o.0, (rw (q, u) o.1, (rw (u, v) o.2, tt)))))
+    record {
+      first = rw (p, q) o.0;
+      second = rw (q, u) o.1;
+      third = rw (u, v) o.2;
+      fourth = rw v (omega arith);
+      across = across_none _ _ (omega arith, (rw (p, q) o.0, (rw (q, u) o.1, (rw (u, v) o.2, tt))));
+    }
 
 pub gen_rhs-requires : goal.gen_rhs-requires
 gen_rhs-requires c = record { laid = c.requires.laid; gen_block = pgub; g_lt_k = omega arith }
 
-pub bounds-out-pgub : goal.bounds-out-pgub
-bounds-out-pgub c = omega (arith, across_length c.loop-g.invariant.3)
-
 pub gen_rhs-requires-in-loop-g : goal.gen_rhs-requires-in-loop-g
 gen_rhs-requires-in-loop-g c = record { laid = c.requires.laid; gen_block = pglb; g_lt_k = omega arith }
-
-pub bounds-out-pglb : goal.bounds-out-pglb
-bounds-out-pglb c = simp length-set (omega (arith, across_length c.loop-g.invariant.3))
 
 pub gen_rhs-requires-in-loop-g-2 : goal.gen_rhs-requires-in-loop-g-2
 gen_rhs-requires-in-loop-g-2 c = record { laid = c.requires.laid; gen_block = qgub; g_lt_k = omega arith }
 
-pub bounds-out-qgub : goal.bounds-out-qgub
-bounds-out-qgub c = simp length-set (omega (arith, across_length c.loop-g.invariant.3))
-
 pub gen_rhs-requires-in-loop-g-3 : goal.gen_rhs-requires-in-loop-g-3
 gen_rhs-requires-in-loop-g-3 c = record { laid = c.requires.laid; gen_block = qglb; g_lt_k = omega arith }
-
-pub bounds-out-qglb : goal.bounds-out-qglb
-bounds-out-qglb c = simp length-set (omega (arith, across_length c.loop-g.invariant.3))
 
 pub loop-g-preserved : goal.loop-g-preserved
 unfolding side_at
@@ -56,13 +48,17 @@ loop-g-preserved c =
     let a = c.args in
     let o = c.loop-g.invariant in
     let f = side_at a.l a.bytes.now in
-    (omega arith, o.1, o.2, across_four (f Pgub) (f Pglb) (f Qgub) (f Qglb) o.3 (omega arith) c.gen_rhs.ensures c.gen_rhs-in-loop-g.ensures c.gen_rhs-in-loop-g-2.ensures c.gen_rhs-in-loop-g-3.ensures)
-
-pub shape_of-out : goal.shape_of-out
-shape_of-out c = across_length c.loop-g.invariant.3
+    let next = across_four (f Pgub) (f Pglb) (f Qgub) (f Qglb) o.across (omega arith) in
+    record {
+      first = o.first;
+      second = o.second;
+      third = o.third;
+      fourth = o.fourth;
+      across = next c.gen_rhs.ensures c.gen_rhs-in-loop-g.ensures c.gen_rhs-in-loop-g-2.ensures c.gen_rhs-in-loop-g-3.ensures;
+    }
 
 pub returns : goal.returns
 unfolding block_run
 returns c =
     let o = c.loop-g.invariant in
-    rw (← c.pgub_row-pgub.ensures, ← c.pglb_row-pglb.ensures, ← c.qgub_row-qgub.ensures, ← c.qglb_row-qglb.ensures, ← o.1) (across_all (omega arith) o.3)
+    rw (← c.pgub_row-pgub.ensures, ← c.pglb_row-pglb.ensures, ← c.qgub_row-qgub.ensures, ← c.qglb_row-qglb.ensures) (across_all (omega arith) o.across)

@@ -1,5 +1,5 @@
 -- `sides::inner::fill_intercepts` meets its contract. Assumes nothing.
-use Prim.Native.Nat.{◌≤◌, ◌+◌, ◌-◌}
+use Rattle.std.proofs.Common.{◌+◌}
 use lib.Ieee.{neg}
 use Rattle.lists.specs.UpTo.{listed}
 use Rattle.records.specs.Fields.{intercept_of}
@@ -7,7 +7,4 @@ use Rattle.cells.specs.Filled.{Filled}
 use Rattle.sides.proofs.inner.fill_intercepts.Given as goal
 
 abbrev pub invariant-loop-i : goal.invariant-loop-i
-invariant-loop-i l = (l.i ≤ l.count) × (Filled (listed l.i (λ r. neg (intercept_of l.bytes (l.first + r)))) l.initial.out l.at l.out)
-
-abbrev pub decreases-loop-i : goal.decreases-loop-i
-decreases-loop-i l = l.count - l.i
+invariant-loop-i l = Filled (listed l.i (λ r. neg (intercept_of l.bytes (l.first + r)))) l.initial.out l.at l.out

@@ -1,6 +1,5 @@
 -- `sides::inner::fill_ohms` meets its contract: a run of zeros for each block, which ends among all rows. Assumes nothing.
-use Prim.Native.Nat.{◌+◌, ◌≤◌}
-use native.Mathlib.Omega.{arith}
+use Rattle.std.proofs.Common.{◌+◌, ◌≤◌, arith}
 use Rattle.numbering.specs.Layout.{layout_row, ncon_of}
 use Rattle.numbering.specs.declared.SocWrLayout.{SocWrLayout}
 use Rattle.numbering.specs.declared.RowName.TheVariants.{OhmPf, OhmQf, OhmPt, OhmQt}

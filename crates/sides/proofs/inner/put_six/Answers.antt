@@ -1,25 +1,7 @@
 -- `sides::inner::put_six` meets its contract. Assumes nothing.
-use Prim.Native.Nat.{suc, ◌+◌}
-use mathlib.Core.Path.{◌≡◌}
-use native.Mathlib.Omega.{arith}
-use lib.ListN.{length-set}
+use Rattle.std.proofs.Common.{suc, ◌+◌, ◌≡◌, arith}
 use Rattle.sides.specs.Sides.{rating_sides}
 use Rattle.sides.proofs.inner.put_six.Goals as goal
-
-pub bounds-out-at-2 : goal.bounds-out-at-2
-bounds-out-at-2 c = simp length-set (omega arith)
-
-pub bounds-out-at-3 : goal.bounds-out-at-3
-bounds-out-at-3 c = simp length-set (omega arith)
-
-pub bounds-out-at-4 : goal.bounds-out-at-4
-bounds-out-at-4 c = simp length-set (omega arith)
-
-pub bounds-out-at-5 : goal.bounds-out-at-5
-bounds-out-at-5 c = simp length-set (omega arith)
-
-pub bounds-out-at-6 : goal.bounds-out-at-6
-bounds-out-at-6 c = simp length-set (omega arith)
 
 pub returns : goal.returns
 unfolding rating_sides

@@ -1,5 +1,5 @@
 use Rattle.sparse.specs.Checks.{bounded}
-use mathlib.Core.Path.{refl}
+use Rattle.std.proofs.Common.{refl}
 use Rattle.sparse.proofs.inner.bounded.Goals as goal
 
 pub returns : goal.returns

@@ -1,6 +1,4 @@
-use mathlib.Core.Path.{◌≡◌}
-use mathlib.Core.Bool.{true, false}
-use native.Mathlib.Omega.{arith}
+use Rattle.std.proofs.Common.{◌≡◌, true, false, arith}
 use Rattle.sparse.specs.Sparse.{items_of}
 use Rattle.sparse.specs.Checks.{bounded, selector_fits}
 use Rattle.sparse.proofs.Fits.{bounds}

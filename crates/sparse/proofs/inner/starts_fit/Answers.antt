@@ -4,7 +4,7 @@ use Rattle.sparse.proofs.inner.starts_fit.Goals as goal
 
 pub returns-then-starts-gt0 : goal.returns-then-starts-gt0
 unfolding starts_fit
-returns-then-starts-gt0 c = rw (lt-ltb _ _ c.if-starts-gt0.true, c.rising.ensures, c.wide.ensures.value)
+returns-then-starts-gt0 c = rw (lt-ltb _ _ c.if-starts-gt0.true, c.rising.ensures)
 
 pub returns : goal.returns
 unfolding starts_fit

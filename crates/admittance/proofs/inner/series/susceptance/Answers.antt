@@ -1,5 +1,5 @@
 -- `admittance::inner::series::susceptance` meets its contract. Assumes nothing.
-use mathlib.Core.Path.{refl}
+use Rattle.std.proofs.Common.{refl}
 use Rattle.admittance.specs.Places.{series_entries}
 use Rattle.admittance.proofs.inner.series.susceptance.Goals as goal
 

@@ -1,8 +1,11 @@
--- `admittance::inner::stores::value` meets its contract. Assumes nothing.
-use mathlib.Core.Path.{sym, ◌∙◌}
-use lib.ListN.{get_or-eq_default}
-use Rattle.records.proofs.Floats.{zero_by_zero}
+use Rattle.std.proofs.Common.{◌≡◌, refl, le_refl}
+use Rattle.std.specs.Float.{binary64, nan}
+use Rattle.std.specs.Float.Ieee.{of_bits}
 use Rattle.admittance.proofs.inner.stores.value.Goals as goal
 
+no_number : of_bits binary64 9221120237041090560 ≡ nan
+unfolding of_bits
+no_number = refl
+
 pub returns : goal.returns
-returns c = zero_by_zero ∙ sym (get_or-eq_default c.args.x.now _ c.if-at-x.false)
+returns c = rw (c.unwrap_or.ensures, c.copied.ensures, no_number) (c.get.ensures.lookup.4 (le_refl _) nan)

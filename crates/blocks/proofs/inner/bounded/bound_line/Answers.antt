@@ -1,29 +1,28 @@
--- `blocks::inner::bounded::bound_line` meets its contract. Assumes nothing.
 use Rattle.blocks.proofs.inner.bounded.bound_line.Goals as goal
 
 pub wub-requires : goal.wub-requires
-wub-requires c = record { laid = c.requires.laid; i_lt_n = rw c.in-Wub.is at c.requires.i_bound }
+wub-requires c = record { laid = c.args.net.now.laid; i_lt_n = rw c.in-Wub.is at c.requires }
 
 pub wlb-requires : goal.wlb-requires
-wlb-requires c = record { laid = c.requires.laid; i_lt_n = rw c.in-Wlb.is at c.requires.i_bound }
+wlb-requires c = record { laid = c.args.net.now.laid; i_lt_n = rw c.in-Wlb.is at c.requires }
 
 pub pgub-requires : goal.pgub-requires
-pgub-requires c = record { laid = c.requires.laid; g_lt_k = rw c.in-Pgub.is at c.requires.i_bound }
+pgub-requires c = record { laid = c.args.net.now.laid; g_lt_k = rw c.in-Pgub.is at c.requires }
 
 pub pglb-requires : goal.pglb-requires
-pglb-requires c = record { laid = c.requires.laid; g_lt_k = rw c.in-Pglb.is at c.requires.i_bound }
+pglb-requires c = record { laid = c.args.net.now.laid; g_lt_k = rw c.in-Pglb.is at c.requires }
 
 pub qgub-requires : goal.qgub-requires
-qgub-requires c = record { laid = c.requires.laid; g_lt_k = rw c.in-Qgub.is at c.requires.i_bound }
+qgub-requires c = record { laid = c.args.net.now.laid; g_lt_k = rw c.in-Qgub.is at c.requires }
 
 pub qglb-requires : goal.qglb-requires
-qglb-requires c = record { laid = c.requires.laid; g_lt_k = rw c.in-Qglb.is at c.requires.i_bound }
+qglb-requires c = record { laid = c.args.net.now.laid; g_lt_k = rw c.in-Qglb.is at c.requires }
 
 pub angub-requires : goal.angub-requires
-angub-requires c = record { laid = c.requires.laid; e_lt_m = rw c.in-Angub.is at c.requires.i_bound }
+angub-requires c = record { laid = c.args.net.now.laid; e_lt_m = rw c.in-Angub.is at c.requires }
 
 pub anglb-requires : goal.anglb-requires
-anglb-requires c = record { laid = c.requires.laid; e_lt_m = rw c.in-Anglb.is at c.requires.i_bound }
+anglb-requires c = record { laid = c.args.net.now.laid; e_lt_m = rw c.in-Anglb.is at c.requires }
 
 pub returns-in-Wub : goal.returns-in-Wub
 returns-in-Wub c = rw c.in-Wub.is c.wub.ensures

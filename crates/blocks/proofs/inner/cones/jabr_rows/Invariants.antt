@@ -1,14 +1,9 @@
--- `blocks::inner::cones::jabr_rows` meets its contract. Assumes nothing.
-use Prim.Native.Nat.{◌≤◌, ◌-◌}
 use Rattle.lists.specs.UpTo.{each}
-use Rattle.lists.specs.Out.{out, Wrote}
-use Rattle.complementarity.specs.Writes.{cone_in}
+use Rattle.lists.specs.Puts.{Puts}
 use Rattle.numbering.specs.declared.RowName.TheVariants.{Jabr}
-use Rattle.numbering.specs.Laid.{net_of}
+use Rattle.numbering.specs.Network.{grid}
+use Rattle.complementarity.specs.Writes.{cone_in}
 use Rattle.blocks.proofs.inner.cones.jabr_rows.Given as goal
 
 abbrev pub invariant-loop-e : goal.invariant-loop-e
-invariant-loop-e l = (l.e ≤ l.l.m) × Wrote (each l.e (λ e. cone_in (net_of l.l l.bytes) l.x l.z l.d 4 (Jabr e))) (out l.initial.rows l.initial.cols l.initial.vals l.at) (out l.rows l.cols l.vals l.next)
-
-abbrev pub decreases-loop-e : goal.decreases-loop-e
-decreases-loop-e l = l.l.m - l.e
+invariant-loop-e l = Puts (each l.e (λ e. cone_in (grid l.p.net) l.p.x.now l.p.z.now l.d 4 (Jabr e))) l.initial.list l.list

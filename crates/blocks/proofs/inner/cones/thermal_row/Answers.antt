@@ -1,50 +1,55 @@
--- `blocks::inner::cones::thermal_row` meets its contract. Assumes nothing.
+use Rattle.std.proofs.Common.{length-append, arith}
+use Rattle.lists.proofs.Puts.{none, then, pos}
 use Rattle.complementarity.proofs.Laws.{cone-ready}
-use Rattle.lists.proofs.Written.{then, pos, wrote_none, len-rows, len-cols, len-vals}
-use mathlib.Core.Path.{sym, ◌∙◌}
-use lib.ListN.{length-append}
 use Rattle.blocks.specs.Kinds.{thermal_in}
-use native.Mathlib.Omega.{arith}
+use Rattle.blocks.proofs.Laws.{bit_at}
 use Rattle.blocks.proofs.inner.cones.thermal_row.Goals as goal
 
-pub column_count-v-requires : goal.column_count-v-requires
-column_count-v-requires c = c.requires.given.laid.range
-
 pub thermal_from-a-requires : goal.thermal_from-a-requires
-thermal_from-a-requires c = record { laid = c.requires.given.laid; e_lt_m = (c.requires.e_lt_m.0, sym c.thermal_limit_active.ensures ∙ c.if-thermal_limit_active.true, c.requires.e_lt_m.1) }
+thermal_from-a-requires c =
+    let p = c.requires.e_lt_m in
+    let r = c.branch-r.ensures in
+    let e = bit_at r.bytes r.place c.thermal_limit_active.ensures c.if-thermal_limit_active.true in
+    record { laid = c.args.p.now.net.laid; e_lt_m = (p.0, e, p.1) }
 
 pub thermal_to-b-requires : goal.thermal_to-b-requires
-thermal_to-b-requires c = record { laid = c.requires.given.laid; e_lt_m = (c.requires.e_lt_m.0, sym c.thermal_limit_active.ensures ∙ c.if-thermal_limit_active.true, c.requires.e_lt_m.1) }
-
-pub put_lines-next-requires : goal.put_lines-next-requires
-unfolding thermal_in
-put_lines-next-requires c =
-    let q = cone-ready c.requires.given c.column_count-v.ensures c.args.d c.thermal_from-a.ensures in
-    let h = simp length-append at (rw (sym c.thermal_limit_active.ensures ∙ c.if-thermal_limit_active.true) at c.requires.e_bound) in record { by_index = q.within; z_bound = q.small; d_bound = rw q.same (omega arith) }
+thermal_to-b-requires c =
+    let p = c.requires.e_lt_m in
+    let r = c.branch-r.ensures in
+    let e = bit_at r.bytes r.place c.thermal_limit_active.ensures c.if-thermal_limit_active.true in
+    record { laid = c.args.p.now.net.laid; e_lt_m = (p.0, e, p.1) }
 
 pub put_lines-requires : goal.put_lines-requires
 unfolding thermal_in
 put_lines-requires c =
-    let p = cone-ready c.requires.given c.column_count-v.ensures c.args.d c.thermal_from-a.ensures in
-    let q = cone-ready c.requires.given c.column_count-v.ensures c.args.d c.thermal_to-b.ensures in
-    let h = simp length-append at (rw (sym c.thermal_limit_active.ensures ∙ c.if-thermal_limit_active.true) at c.requires.e_bound) in record { by_index = q.within; z_bound = q.small; d_bound = rw q.same (omega (arith, pos (rw p.same at c.put_lines-next.ensures))) }
+    let q = cone-ready c.args.p.now.given c.column_count-v.ensures c.args.d c.thermal_from-a.ensures in
+    let r = c.branch-r.ensures in
+    let e = bit_at r.bytes r.place c.thermal_limit_active.ensures c.if-thermal_limit_active.true in
+    let h = simp length-append at (rw e at c.requires.room) in
+    record { by_index = q.within; z_bound = q.small; d_bound = rw q.same (omega arith) }
 
-pub shape_of-rows-then-thermal_limit_active : goal.shape_of-rows-then-thermal_limit_active
-shape_of-rows-then-thermal_limit_active c = len-rows (then c.put_lines-next.ensures c.put_lines.ensures)
-
-pub shape_of-cols-then-thermal_limit_active : goal.shape_of-cols-then-thermal_limit_active
-shape_of-cols-then-thermal_limit_active c = len-cols (then c.put_lines-next.ensures c.put_lines.ensures)
-
-pub shape_of-vals-then-thermal_limit_active : goal.shape_of-vals-then-thermal_limit_active
-shape_of-vals-then-thermal_limit_active c = len-vals (then c.put_lines-next.ensures c.put_lines.ensures)
+pub put_lines-requires-then-thermal_limit_active : goal.put_lines-requires-then-thermal_limit_active
+unfolding thermal_in
+put_lines-requires-then-thermal_limit_active c =
+    let p = cone-ready c.args.p.now.given c.column_count-v.ensures c.args.d c.thermal_from-a.ensures in
+    let q = cone-ready c.args.p.now.given c.column_count-v.ensures c.args.d c.thermal_to-b.ensures in
+    let r = c.branch-r.ensures in
+    let e = bit_at r.bytes r.place c.thermal_limit_active.ensures c.if-thermal_limit_active.true in
+    let h = simp length-append at (rw e at c.requires.room) in
+    record { by_index = q.within; z_bound = q.small; d_bound = rw q.same (omega (arith, pos (rw p.same at c.put_lines.ensures))) }
 
 pub returns-then-thermal_limit_active : goal.returns-then-thermal_limit_active
 unfolding thermal_in
 returns-then-thermal_limit_active c =
-    let p = cone-ready c.requires.given c.column_count-v.ensures c.args.d c.thermal_from-a.ensures in
-    let q = cone-ready c.requires.given c.column_count-v.ensures c.args.d c.thermal_to-b.ensures in
-    rw (sym c.thermal_limit_active.ensures ∙ c.if-thermal_limit_active.true) (then (rw p.same at c.put_lines-next.ensures) (rw q.same at c.put_lines.ensures))
+    let p = cone-ready c.args.p.now.given c.column_count-v.ensures c.args.d c.thermal_from-a.ensures in
+    let q = cone-ready c.args.p.now.given c.column_count-v.ensures c.args.d c.thermal_to-b.ensures in
+    let r = c.branch-r.ensures in
+    let e = bit_at r.bytes r.place c.thermal_limit_active.ensures c.if-thermal_limit_active.true in
+    rw e (then (rw p.same at c.put_lines.ensures) (rw q.same at c.put_lines-then-thermal_limit_active.ensures))
 
-pub returns : goal.returns
+pub returns-else-thermal_limit_active : goal.returns-else-thermal_limit_active
 unfolding thermal_in
-returns c = rw (sym c.thermal_limit_active.ensures ∙ c.if-thermal_limit_active.false) wrote_none
+returns-else-thermal_limit_active c =
+    let r = c.branch-r.ensures in
+    let e = bit_at r.bytes r.place c.thermal_limit_active.ensures c.if-thermal_limit_active.false in
+    rw e none

@@ -1,16 +1,11 @@
--- `blocks::inner::cones::thermal_rows` meets its contract. Assumes nothing.
-use Prim.Native.Nat.{◌≤◌, ◌-◌}
-use mathlib.Core.Path.{◌≡◌}
+use Rattle.std.proofs.Common.{◌≡◌}
 use Rattle.lists.specs.UpTo.{each, count}
-use Rattle.lists.specs.Out.{out, Wrote}
+use Rattle.lists.specs.Puts.{Puts}
+use Rattle.numbering.specs.Network.{grid}
 use Rattle.blocks.specs.Kinds.{thermal_in}
-use Rattle.numbering.specs.Laid.{net_of}
 use Rattle.blocks.proofs.inner.cones.thermal_rows.Given as goal
 
 abbrev pub invariant-loop-e : goal.invariant-loop-e
 invariant-loop-e l =
-    (l.e ≤ l.l.m) × Wrote (each l.e (thermal_in (net_of l.l l.bytes) l.x l.z l.d)) (out l.initial.rows l.initial.cols l.initial.vals l.at) (out l.rows l.cols l.vals l.next)
-    × (l.limits ≡ count l.e (net_of l.l l.bytes).limited)
-
-abbrev pub decreases-loop-e : goal.decreases-loop-e
-decreases-loop-e l = l.l.m - l.e
+    Puts (each l.e (thermal_in (grid l.p.net) l.p.x.now l.p.z.now l.d)) l.initial.list l.list
+    × (l.limits ≡ count l.e (grid l.p.net).limited)

@@ -1,51 +1,39 @@
--- `blocks::inner::segments::segment_rows` meets its contract. Assumes nothing.
-use Prim.Native.Nat.{◌-◌}
-use mathlib.Core.Path.{◌≡◌, ◌∙◌, ap}
-use Rattle.lists.proofs.Sums.{count-le}
+use Rattle.std.proofs.Common.{ap, ◌∙◌, arith}
 use Rattle.lists.specs.UpTo.{bit}
-use Rattle.lists.proofs.Written.{no-turn, turn, len-rows, len-cols, len-vals}
+use Rattle.lists.proofs.Sums.{count-le}
+use Rattle.lists.proofs.Puts.{no-turn, turn, room}
 use Rattle.records.proofs.Segments.{segments-below}
-use Rattle.numbering.specs.Laid.{net_of}
-use Rattle.complementarity.proofs.Rooms.{room-turn}
+use Rattle.numbering.specs.Network.{grid}
 use Rattle.blocks.proofs.Laws.{sum_more, count-more, none_yet}
-use native.Mathlib.Omega.{arith}
 use Rattle.blocks.proofs.inner.segments.segment_rows.Goals as goal
 
 pub loop-g-init : goal.loop-g-init
-loop-g-init c = (omega arith, no-turn _, none_yet _, none_yet _)
+loop-g-init c = (no-turn _, none_yet _, none_yet _)
 
-pub overflow_add-r : goal.overflow_add-r
-overflow_add-r c = let q = c.requires.given.laid.range in omega arith
-
-pub overflow_add-r-in-loop-g : goal.overflow_add-r-in-loop-g
-overflow_add-r-in-loop-g c = let q = c.requires.given.laid.range in omega arith
-
-pub segments_of-next-requires : goal.segments_of-next-requires
-segments_of-next-requires c = record { given = c.requires.given; g_lt_k = c.loop-g-test.true; before_value = (c.loop-g.invariant.2, c.loop-g.invariant.3); t_bound = room-turn _ _ _ c.loop-g.invariant.1 c.loop-g-test.true c.requires.t_bound }
-
-pub segments-before-requires : goal.segments-before-requires
-segments-before-requires c = omega (arith, c.requires.given.laid.accepted.size)
+pub segments_of-requires : goal.segments_of-requires
+segments_of-requires c =
+    let i = c.loop-g.invariant in
+    record { g_lt_k = c.loop-g-test.true; before_value = (i.1, i.2); room = room _ _ _ i.0 c.loop-g-test.true c.requires.room }
 
 pub overflow_add-before : goal.overflow_add-before
-overflow_add-before c = let q = c.requires.given.laid.range in omega (arith, c.segments-before.ensures.upper_bound, c.loop-g.invariant.2, segments-below c.requires.given.laid.accepted c.loop-g.g c.loop-g.invariant.0)
-
-pub piecewise-requires : goal.piecewise-requires
-piecewise-requires c = omega (arith, c.requires.given.laid.accepted.size)
+overflow_add-before c =
+    let laid = c.args.p.now.net.laid in
+    let q = laid.range in
+    omega (arith, c.segments-before.ensures.upper_bound, c.loop-g.invariant.1, segments-below laid.accepted c.loop-g.g (omega (arith, c.loop-g-test.true)))
 
 pub overflow_add-curves : goal.overflow_add-curves
-overflow_add-curves c = let q = c.requires.given.laid.range in omega (arith, c.bit-curves.ensures.upper_bound, c.loop-g.invariant.3, count-le c.loop-g.g (net_of c.args.l c.args.bytes.now).piecewise)
+overflow_add-curves c =
+    let net = c.args.p.now.net in
+    let q = net.laid.range in
+    omega (arith, c.bit-curves.ensures.upper_bound, c.loop-g.invariant.2, count-le c.loop-g.g (grid net).piecewise)
 
 pub loop-g-preserved : goal.loop-g-preserved
-loop-g-preserved c = (omega arith, turn _ _ c.loop-g.invariant.1 c.segments_of-next.ensures, sum_more _ _ _ c.loop-g.invariant.2 c.segments-before.ensures.value, count-more c.loop-g.g (net_of c.args.l c.args.bytes.now).piecewise _ c.loop-g.invariant.3 (c.bit-curves.ensures.value ∙ ap bit c.piecewise.ensures))
-
-pub shape_of-rows : goal.shape_of-rows
-shape_of-rows c = len-rows c.loop-g.invariant.1
-
-pub shape_of-cols : goal.shape_of-cols
-shape_of-cols c = len-cols c.loop-g.invariant.1
-
-pub shape_of-vals : goal.shape_of-vals
-shape_of-vals c = len-vals c.loop-g.invariant.1
-
-pub returns : goal.returns
-returns c = let e : c.loop-g.g ≡ c.args.l.k = omega arith in rw e at c.loop-g.invariant.1
+loop-g-preserved c =
+    let i = c.loop-g.invariant in
+    let r = c.generator-r.ensures in
+    let n = rw (r.bytes, r.place) at c.segments-before.ensures.value in
+    let curve = rw (r.bytes, r.place) at c.piecewise.ensures in (
+      turn _ _ i.0 c.segments_of.ensures,
+      sum_more _ _ _ i.1 n,
+      count-more c.loop-g.g (grid c.args.p.now.net).piecewise _ i.2 (c.bit-curves.ensures.value ∙ ap bit curve),
+    )

@@ -1,5 +1,5 @@
 -- `branch::inner::ohm::w_at` meets its contract: the formula of w uses the five floats and the row's shunt alone. Assumes nothing.
-use mathlib.Core.Path.{◌∙◌}
+use Rattle.std.proofs.Common.{◌∙◌}
 use Rattle.branch.proofs.Coefficients.{w_of}
 use Rattle.branch.proofs.inner.ohm.w_at.Goals as goal
 

@@ -1,5 +1,5 @@
 -- `branch::inner::places::flow_column` meets its contract: each arm is the number of its flow's column. Assumes nothing.
-use mathlib.Core.Path.{refl, ◌∙◌}
+use Rattle.std.proofs.Common.{refl, ◌∙◌}
 use Rattle.numbering.specs.declared.ColumnName.TheVariants.{Pf, Qf, Pt, Qt}
 use Rattle.numbering.proofs.Laid.{laid-column}
 use Rattle.branch.proofs.inner.places.flow_column.Goals as goal

@@ -1,5 +1,5 @@
 -- `branch::inner::places::ohm_row` meets its contract: each arm is the number of its row. Assumes nothing.
-use mathlib.Core.Path.{refl, ◌∙◌}
+use Rattle.std.proofs.Common.{refl, ◌∙◌}
 use Rattle.numbering.specs.declared.RowName.TheVariants.{OhmPf, OhmQf, OhmPt, OhmQt}
 use Rattle.numbering.proofs.Laid.{laid-row}
 use Rattle.branch.proofs.inner.places.ohm_row.Goals as goal

@@ -1,6 +1,5 @@
 -- `bus_columns::inner::column::put_shunt` meets its contract: both balance rows are written at their numbers. Assumes nothing.
-use mathlib.Core.Path.{refl, ◌∙◌}
-use native.Mathlib.Omega.{arith}
+use Rattle.std.proofs.Common.{refl, ◌∙◌, arith}
 use Rattle.lists.proofs.Compressed.{then}
 use Rattle.numbering.specs.declared.RowName.TheVariants.{Pbal, Qbal}
 use Rattle.numbering.proofs.Laid.{laid-row}

@@ -1,7 +1,6 @@
 -- `bus_columns::inner::counts::count_own` meets its contract. Assumes nothing.
-use mathlib.Core.Path.{sym, ap, ◌∙◌}
-use native.Mathlib.Omega.{arith}
-use lib.Ieee.{Float, neg, ne}
+use Rattle.std.proofs.Common.{sym, ap, ◌∙◌, arith, Float}
+use lib.Ieee.{neg, ne}
 use Rattle.lists.specs.UpTo.{bit}
 use Rattle.rows.specs.Rows.{zero64}
 use Rattle.numbering.specs.Laid.{net_of}
@@ -15,7 +14,11 @@ returns-then-voltage_bound_active c =
     let q = own-length (net_of a.l b) a.i in
     let t = ap bit (sym c.voltage_bound_active.ensures ∙ c.if-voltage_bound_active.true) in
     let e1 = ap (λ (x : Float). bit (ne (neg x) zero64)) c.gs-gs.ensures in
-    let e2 = ap (λ (x : Float). bit (ne x zero64)) c.bs-bs.ensures in record { value = omega (arith, q, t, e1, e2, c.bit_nonzero.ensures.value, c.bit_nonzero-2.ensures.value); upper_bound = omega (arith, c.bit_nonzero.ensures.upper_bound, c.bit_nonzero-2.ensures.upper_bound) }
+    let e2 = ap (λ (x : Float). bit (ne x zero64)) c.bs-bs.ensures in
+    record {
+      value = omega (arith, q, t, e1, e2, c.bit_nonzero.ensures.value, c.bit_nonzero-2.ensures.value);
+      upper_bound = omega (arith, c.bit_nonzero.ensures.upper_bound, c.bit_nonzero-2.ensures.upper_bound);
+    }
 
 pub returns : goal.returns
 returns c =
@@ -24,4 +27,8 @@ returns c =
     let q = own-length (net_of a.l b) a.i in
     let t = ap bit (sym c.voltage_bound_active.ensures ∙ c.if-voltage_bound_active.false) in
     let e1 = ap (λ (x : Float). bit (ne (neg x) zero64)) c.gs-gs.ensures in
-    let e2 = ap (λ (x : Float). bit (ne x zero64)) c.bs-bs.ensures in record { value = omega (arith, q, t, e1, e2, c.bit_nonzero.ensures.value, c.bit_nonzero-2.ensures.value); upper_bound = omega (arith, c.bit_nonzero.ensures.upper_bound, c.bit_nonzero-2.ensures.upper_bound) }
+    let e2 = ap (λ (x : Float). bit (ne x zero64)) c.bs-bs.ensures in
+    record {
+      value = omega (arith, q, t, e1, e2, c.bit_nonzero.ensures.value, c.bit_nonzero-2.ensures.value);
+      upper_bound = omega (arith, c.bit_nonzero.ensures.upper_bound, c.bit_nonzero-2.ensures.upper_bound);
+    }

@@ -1,6 +1,4 @@
 -- `bus_columns::inner::gathering::gather` meets its contract. Assumes nothing.
-use Prim.Native.Nat.{◌≤◌, ◌-◌}
-use mathlib.Core.Path.{◌≡◌}
 use Rattle.lists.specs.UpTo.{each}
 use Rattle.numbering.specs.Laid.{net_of}
 use Rattle.cells.specs.Filled.{Filled}
@@ -8,7 +6,4 @@ use Rattle.bus_columns.specs.Gathered.{four_of}
 use Rattle.bus_columns.proofs.inner.gathering.gather.Given as goal
 
 abbrev pub invariant-loop-e : goal.invariant-loop-e
-invariant-loop-e l = (l.e ≤ l.m) × (l.m ≡ l.l.m) × Filled (each l.e (four_of (net_of l.l l.bytes))) l.initial.vals l.at l.vals
-
-abbrev pub decreases-loop-e : goal.decreases-loop-e
-decreases-loop-e l = l.m - l.e
+invariant-loop-e l = Filled (each l.e (four_of (net_of l.l l.bytes))) l.initial.vals l.at l.vals

@@ -1,32 +1,20 @@
--- `columns::inner::column::column_cause` meets its contract. Assumes nothing.
+-- The solution's lengths end the check, or the parameter; else the room decides.
 use Rattle.columns.specs.Jacobian.{column_cause}
-use Rattle.std.proofs.Common.{rules}
+use Rattle.refusals.proofs.Laws.{ends, went_on}
 use Rattle.columns.proofs.inner.column.column_cause.Goals as goal
 
-pub solution_cause-solution-requires : goal.solution_cause-solution-requires
+pub returns-in_err-solution_cause : goal.returns-in_err-solution_cause
 unfolding column_cause
-solution_cause-solution-requires c = search rules
+returns-in_err-solution_cause c = ends _ c.from_residual.ensures.1 c.in_err-solution_cause.was c.solution_cause.ensures
 
-pub parameter_cause-parameter-requires : goal.parameter_cause-parameter-requires
+pub returns-in_err-parameter_cause : goal.returns-in_err-parameter_cause
 unfolding column_cause
-parameter_cause-parameter-requires c = search rules
-
-pub dim-requires : goal.dim-requires
-unfolding column_cause
-dim-requires c = search rules
-
-pub room_for-room-requires : goal.room_for-room-requires
-unfolding column_cause
-room_for-room-requires c = search rules
-
-pub or_else-requires : goal.or_else-requires
-unfolding column_cause
-or_else-requires c = search rules
-
-pub or_else-requires-2 : goal.or_else-requires-2
-unfolding column_cause
-or_else-requires-2 c = search rules
+returns-in_err-parameter_cause c =
+    went_on c.solution_cause.ensures c.in_ok-solution_cause.was
+    (ends _ c.from_residual-in_err-parameter_cause.ensures.1 c.in_err-parameter_cause.was c.parameter_cause.ensures)
 
 pub returns : goal.returns
 unfolding column_cause
-returns c = cc
+returns c =
+    went_on c.solution_cause.ensures c.in_ok-solution_cause.was
+    (went_on c.parameter_cause.ensures c.in_ok-parameter_cause.was (rw c.dim.ensures at c.room_for.ensures))

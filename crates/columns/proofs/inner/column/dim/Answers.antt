@@ -1,4 +1,4 @@
--- `columns::inner::column::dim` meets its contract. Assumes nothing.
+-- The columns and the rows of the network.
 use Rattle.numbering.proofs.Laid.{laid-nvar, laid-ncon}
 use Rattle.columns.proofs.inner.column.dim.Goals as goal
 

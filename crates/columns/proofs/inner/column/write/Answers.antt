@@ -1,84 +1,62 @@
--- `columns::inner::column::write` meets its contract. An arm for each parameter. Assumes nothing.
-use mathlib.Core.Path.{◌∙◌, ap}
-use mathlib.Core.List.{List}
+-- An arm for each parameter.
+use Rattle.std.proofs.Common.{◌∙◌, ap, List}
 use Rattle.admittance.specs.Stores.{Store, stored_all}
-use Rattle.columns.specs.Jacobian.{stores}
-use Rattle.admittance.proofs.Numbers.{shunt-same}
 use Rattle.columns.proofs.Parameters.{demand_same, voltage_same, gen_same, cost-same}
+use Rattle.admittance.proofs.Numbers.{shunt-same}
+use Rattle.columns.specs.Jacobian.{stores}
 use Rattle.columns.proofs.inner.column.write.Goals as goal
 
 pub demand-requires : goal.demand-requires
-unfolding stores stored_all
 demand-requires c = record { in_range = c.requires.laid.range; i_lt_n = rw c.in-Demand.is at c.requires.i_bound }
 
 pub cost-requires : goal.cost-requires
-unfolding stores stored_all
 cost-requires c = record { in_range = c.requires.laid.range; g_lt_k = rw c.in-Cost.is at c.requires.i_bound }
 
 pub line_limit-requires : goal.line_limit-requires
-unfolding stores stored_all
 line_limit-requires c =
     let pre = c.requires in
-    let below = rw c.in-LineLimit.is at pre.i_bound in record { laid = pre.laid; e_lt_m = below; before_value = pre.before_value below }
+    let below = rw c.in-LineLimit.is at pre.i_bound in
+    record { laid = pre.laid; e_lt_m = below; before_value = pre.before_value below }
 
 pub series_admittance-requires : goal.series_admittance-requires
-unfolding stores stored_all
 series_admittance-requires c = record { laid = c.requires.laid; e_lt_m = rw c.in-SeriesAdmittance.is at c.requires.i_bound }
 
 pub shunt-requires : goal.shunt-requires
-unfolding stores stored_all
 shunt-requires c = record { in_range = c.requires.laid.range; i_lt_n = rw c.in-ShuntAdmittance.is at c.requires.i_bound }
 
 pub voltage_bound-requires : goal.voltage_bound-requires
-unfolding stores stored_all
 voltage_bound-requires c = record { in_range = c.requires.laid.range; i_lt_n = rw c.in-VoltageBound.is at c.requires.i_bound }
 
 pub gen_bound-requires : goal.gen_bound-requires
-unfolding stores stored_all
 gen_bound-requires c = record { in_range = c.requires.laid.range; g_lt_k = rw c.in-GenBound.is at c.requires.i_bound }
 
 pub returns-in-Demand : goal.returns-in-Demand
 returns-in-Demand c =
     let a = c.args in
-    rw c.in-Demand.is (c.demand.ensures ∙ ap (λ (ss : List Store). stored_all ss a.column.now) (demand_same a.l a.bytes.now c.requires.laid a.x.now a.z.now _ a.i))
+    let same = demand_same a.l a.bytes.now c.requires.laid a.x.now a.z.now _ a.i in
+    rw c.in-Demand.is (c.demand.ensures ∙ ap (λ (ss : List Store). stored_all ss a.column.now) same)
 
 pub returns-in-Cost : goal.returns-in-Cost
 returns-in-Cost c =
     let a = c.args in
-    rw c.in-Cost.is (c.cost.ensures ∙ ap (λ (ss : List Store). stored_all ss a.column.now) (cost-same a.l a.bytes.now c.requires.laid a.x.now a.z.now _ a.i))
-
-pub returns-in-LineLimit : goal.returns-in-LineLimit
-unfolding stores stored_all
-returns-in-LineLimit c = rw c.in-LineLimit.is c.line_limit.ensures
-
-pub returns-in-SeriesAdmittance : goal.returns-in-SeriesAdmittance
-unfolding stores stored_all
-returns-in-SeriesAdmittance c = rw c.in-SeriesAdmittance.is c.series_admittance.ensures
+    let same = cost-same a.l a.bytes.now c.requires.laid a.x.now a.z.now _ a.i in
+    rw c.in-Cost.is (c.cost.ensures ∙ ap (λ (ss : List Store). stored_all ss a.column.now) same)
 
 pub returns-in-ShuntAdmittance : goal.returns-in-ShuntAdmittance
 unfolding stores
 returns-in-ShuntAdmittance c =
     let a = c.args in
-    rw c.in-ShuntAdmittance.is (c.shunt.ensures ∙ ap (λ (ss : List Store). stored_all ss a.column.now) (shunt-same a.l a.bytes.now c.requires.laid a.x.now a.z.now c.in-ShuntAdmittance.gb a.i))
+    let same = shunt-same a.l a.bytes.now c.requires.laid a.x.now a.z.now c.in-ShuntAdmittance.gb a.i in
+    rw c.in-ShuntAdmittance.is (c.shunt.ensures ∙ ap (λ (ss : List Store). stored_all ss a.column.now) same)
 
 pub returns-in-VoltageBound : goal.returns-in-VoltageBound
 returns-in-VoltageBound c =
     let a = c.args in
-    rw c.in-VoltageBound.is (c.voltage_bound.ensures ∙ ap (λ (ss : List Store). stored_all ss a.column.now) (voltage_same a.l a.bytes.now c.requires.laid a.x.now a.z.now _ a.i))
+    let same = voltage_same a.l a.bytes.now c.requires.laid a.x.now a.z.now _ a.i in
+    rw c.in-VoltageBound.is (c.voltage_bound.ensures ∙ ap (λ (ss : List Store). stored_all ss a.column.now) same)
 
 pub returns-in-GenBound : goal.returns-in-GenBound
 returns-in-GenBound c =
     let a = c.args in
-    rw c.in-GenBound.is (c.gen_bound.ensures ∙ ap (λ (ss : List Store). stored_all ss a.column.now) (gen_same a.l a.bytes.now c.requires.laid a.x.now a.z.now _ _ a.i))
-
-pub returns-in-Transformer : goal.returns-in-Transformer
-unfolding stores stored_all
-returns-in-Transformer c = rw c.in-Transformer.is
-
-pub returns-in-Switching : goal.returns-in-Switching
-unfolding stores stored_all
-returns-in-Switching c = rw c.in-Switching.is
-
-pub returns-in-ConstraintLimit : goal.returns-in-ConstraintLimit
-unfolding stores stored_all
-returns-in-ConstraintLimit c = rw c.in-ConstraintLimit.is
+    let same = gen_same a.l a.bytes.now c.requires.laid a.x.now a.z.now _ _ a.i in
+    rw c.in-GenBound.is (c.gen_bound.ensures ∙ ap (λ (ss : List Store). stored_all ss a.column.now) same)

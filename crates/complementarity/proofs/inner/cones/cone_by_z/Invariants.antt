@@ -1,12 +1,8 @@
 -- `complementarity::inner::cones::cone_by_z` meets its contract. Assumes nothing.
-use Prim.Native.Nat.{◌≤◌, ◌-◌}
 use Rattle.lists.specs.UpTo.{each}
-use Rattle.lists.specs.Out.{out, Wrote}
+use Rattle.lists.specs.Puts.{Puts}
 use Rattle.complementarity.specs.Writes.{by_z}
 use Rattle.complementarity.proofs.inner.cones.cone_by_z.Given as goal
 
 abbrev pub invariant-loop-l : goal.invariant-loop-l
-invariant-loop-l l = (l.l ≤ l.d) × Wrote (each l.l (by_z l.nvar l.c l.ss l.j)) (out l.initial.rows l.initial.cols l.initial.vals l.at) (out l.rows l.cols l.vals l.next)
-
-abbrev pub decreases-loop-l : goal.decreases-loop-l
-decreases-loop-l l = l.d - l.l
+invariant-loop-l l = Puts (each l.l (by_z l.nvar l.c l.ss l.j)) l.initial.list l.list

@@ -12,6 +12,3 @@ dual-requires-3 c = c.requires 2
 
 pub dual-requires-4 : goal.dual-requires-4
 dual-requires-4 c = c.requires 3
-
-pub returns : goal.returns
-returns c = cc

@@ -1,10 +1,7 @@
 -- `complementarity::inner::cones::put_by_x` meets its contract. Assumes nothing.
-use Rattle.lists.proofs.Written.{wrote_none}
+use Rattle.lists.proofs.Puts.{none}
 use Rattle.complementarity.specs.Writes.{by_x}
 use Rattle.complementarity.proofs.inner.cones.put_by_x.Goals as goal
-
-pub overflow_add-r : goal.overflow_add-r
-overflow_add-r c = record { fits = rw c.line_of-to.ensures (c.requires.held.held c.args.j) }
 
 pub put_scaled-requires : goal.put_scaled-requires
 unfolding by_x
@@ -14,6 +11,6 @@ pub returns-then-a : goal.returns-then-a
 unfolding by_x
 returns-then-a c = rw (rw c.arrow-a.ensures at c.if-a.true) (rw (c.line_of-to.ensures, c.line_of-line.ensures, c.arrow-a.ensures) at c.put_scaled.ensures)
 
-pub returns : goal.returns
+pub returns-else-a : goal.returns-else-a
 unfolding by_x
-returns c = rw (rw c.arrow-a.ensures at c.if-a.false) wrote_none
+returns-else-a c = rw (rw c.arrow-a.ensures at c.if-a.false) none

@@ -2,12 +2,6 @@
 use Rattle.complementarity.specs.Writes.{by_z}
 use Rattle.complementarity.proofs.inner.cones.put_by_z.Goals as goal
 
-pub overflow_add-r : goal.overflow_add-r
-overflow_add-r c = record { fits = rw c.line_of-to.ensures (c.requires.held.held c.args.j) }
-
-pub overflow_add-q : goal.overflow_add-q
-overflow_add-q c = record { fits = rw c.line_of-line.ensures (c.requires.held.held c.args.l) }
-
 pub put_if-requires : goal.put_if-requires
 unfolding by_z
 put_if-requires c = rw (c.line_of-to.ensures, c.line_of-line.ensures, c.arrow-a.ensures) c.requires.l_bound

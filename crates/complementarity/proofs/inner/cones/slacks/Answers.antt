@@ -12,6 +12,3 @@ slack-requires-3 c = c.requires 2
 
 pub slack-requires-4 : goal.slack-requires-4
 slack-requires-4 c = c.requires 3
-
-pub returns : goal.returns
-returns c = rw (c.slack.ensures, c.slack-2.ensures, c.slack-3.ensures, c.slack-4.ensures)

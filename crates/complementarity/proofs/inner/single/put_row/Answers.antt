@@ -1,6 +1,5 @@
 -- `complementarity::inner::single::put_row` meets its contract. Assumes nothing.
 use Rattle.complementarity.specs.Writes.{line_in}
-use native.Mathlib.Omega.{arith}
 use Rattle.complementarity.proofs.inner.single.put_row.Goals as goal
 
 pub put_bound-requires : goal.put_bound-requires
@@ -11,13 +10,10 @@ pub returns-then-bound : goal.returns-then-bound
 unfolding line_in
 returns-then-bound c = rw c.if-bound.true c.put_bound.ensures
 
-pub overflow_add-r : goal.overflow_add-r
-overflow_add-r c = record { fits = omega (arith, c.requires.within.row, c.requires.z_bound) }
-
 pub put_line-requires : goal.put_line-requires
 unfolding line_in
 put_line-requires c = rw c.if-bound.false at c.requires.line_bound
 
-pub returns : goal.returns
+pub returns-else-bound : goal.returns-else-bound
 unfolding line_in
-returns c = rw c.if-bound.false c.put_line.ensures
+returns-else-bound c = rw c.if-bound.false c.put_line.ensures

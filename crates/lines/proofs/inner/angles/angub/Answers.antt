@@ -1,6 +1,6 @@
 -- `lines::inner::angles::angub` meets its contract: the numbers are the row's, and the right side is its b. Assumes nothing.
 use Rattle.lines.proofs.Lines.{angub-stands}
-use lib.Ieee.{neg}
+use Rattle.std.specs.Float.Ieee.{neg}
 use Rattle.lines.proofs.inner.angles.angub.Goals as goal
 
 pub returns : goal.returns

@@ -1,10 +1,6 @@
 -- `lines::inner::cones::jabr` meets its contract. Assumes nothing.
 use Rattle.lines.proofs.Lines.{jabr-stands}
-use native.Mathlib.Omega.{arith}
 use Rattle.lines.proofs.inner.cones.jabr.Goals as goal
-
-pub jabr_row-requires-4 : goal.jabr_row-requires-4
-jabr_row-requires-4 c = record { in_range = c.requires.laid.range; e_le_m = (omega (arith, c.requires.e_lt_m), omega arith) }
 
 pub returns : goal.returns
 returns c =

@@ -1,6 +1,6 @@
 -- `lines::inner::cones::thermal_to` meets its contract. So many limited branches are before it as the layout's row asks for. Assumes nothing.
 use Rattle.lines.proofs.Lines.{limits_in, to-stands}
-use native.Mathlib.Omega.{arith}
+use Rattle.std.proofs.Common.{arith}
 use Rattle.lines.proofs.inner.cones.thermal_to.Goals as goal
 
 pub thermal_row-a-requires : goal.thermal_row-a-requires

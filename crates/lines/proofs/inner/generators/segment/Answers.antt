@@ -1,11 +1,14 @@
 -- `lines::inner::generators::segment` meets its contract. Its record, row and cost column are by the segments and cost columns before it, which are as many as the layout has at most. Assumes nothing.
-use Prim.Native.Nat.{ℕ, ◌+◌}
-use mathlib.Core.Path.{ap}
+use Rattle.std.proofs.Common.{ℕ, ◌+◌, ap, arith}
 use Rattle.rows.specs.Rows.{b}
 use Rattle.records.proofs.Segments.{segment_record_lem, segment-inside}
 use Rattle.lines.proofs.Lines.{segments_in, curves_in, segment-stands}
-use native.Mathlib.Omega.{arith}
 use Rattle.lines.proofs.inner.generators.segment.Goals as goal
+
+pub segment_row-row-requires-clause-position_le_s : goal.segment_row-row-requires-clause-position_le_s
+segment_row-row-requires-clause-position_le_s c =
+    let r = c.requires in
+    omega (arith, segments_in _ _ r.laid _ _ _ r.g_lt_k.0 r.g_lt_k.1 r.segments_value.0)
 
 pub overflow_add-r-3 : goal.overflow_add-r-3
 overflow_add-r-3 c =
@@ -21,9 +24,6 @@ pub overflow_add-segments : goal.overflow_add-segments
 overflow_add-segments c =
     let q = c.requires.laid.range in
     omega (arith, segments_in _ _ c.requires.laid _ _ _ c.requires.g_lt_k.0 c.requires.g_lt_k.1 c.requires.segments_value.0)
-
-pub segment_row-row-requires : goal.segment_row-row-requires
-segment_row-row-requires c = record { in_range = c.requires.laid.range; position_le_s = omega (arith, segments_in _ _ c.requires.laid _ _ _ c.requires.g_lt_k.0 c.requires.g_lt_k.1 c.requires.segments_value.0) }
 
 pub cost_column-col-requires : goal.cost_column-col-requires
 cost_column-col-requires c = record { in_range = c.requires.laid.range; rank_bound = curves_in _ _ c.requires.laid _ _ c.requires.g_lt_k.0 c.requires.segments_value.1 }

@@ -1,5 +1,5 @@
 -- `lines::inner::ohm::ohm_line` meets its contract: the three values are the row's coefficients, at the row's columns. Assumes nothing.
-use mathlib.Core.Path.{◌∙◌}
+use Rattle.std.proofs.Common.{◌∙◌}
 use Rattle.ring.specs.Ops.{rounded}
 use Rattle.rows.specs.Branch.{branch_at}
 use Rattle.numbering.specs.Laid.{net_of}

@@ -1,7 +1,5 @@
--- `operands::inner::selector::price_first` meets its contract: the layout's counts are the network's, and the sum is a row of the KKT matrix. Assumes nothing.
-use mathlib.Core.Path.{◌≡◌, ap₂, ◌∙◌}
-use Prim.Native.Nat.{◌+◌}
-use native.Mathlib.Omega.{arith}
+-- The layout's counts are the network's, and the sum is a row of the KKT matrix.
+use Rattle.std.proofs.Common.{◌≡◌, ap₂, ◌∙◌, ◌+◌, arith}
 use Rattle.interface.specs.declared.Operand.TheVariants.{Price}
 use Rattle.operands.specs.Selector.{selector_row}
 use Rattle.elements.proofs.Balance.{balance-number}

@@ -1,5 +1,5 @@
--- `operands::inner::selector::voltage_first` meets its contract: the column that the layout names is the network's. Assumes nothing.
-use mathlib.Core.Path.{◌∙◌, refl}
+-- The column that the layout names is the network's.
+use Rattle.std.proofs.Common.{◌∙◌, refl}
 use Rattle.numbering.specs.declared.ColumnName.TheVariants.{W, Wr, Wi}
 use Rattle.numbering.proofs.Laid.{laid-column}
 use Rattle.operands.proofs.inner.selector.voltage_first.Goals as goal

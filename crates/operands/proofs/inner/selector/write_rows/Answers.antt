@@ -1,8 +1,5 @@
--- `operands::inner::selector::write_rows` meets its contract: the items' rows follow each other from the first on. Assumes nothing.
-use mathlib.Core.Path.{ap, ◌∙◌}
-use Prim.Native.Nat.{ℕ}
-use mathlib.Core.List.{List}
-use native.Mathlib.Omega.{arith}
+-- The items' rows follow each other from the first on.
+use Rattle.std.proofs.Common.{ap, ◌∙◌, ℕ, List, arith}
 use Rattle.lists.specs.UpTo.{overlay}
 use Rattle.numbering.specs.Laid.{net_of}
 use Rattle.operands.proofs.Numbers.{row-few, items-few}

@@ -1,17 +1,11 @@
 -- `quadratic::inner::linear::fill_q` meets its contract: zeros, and over them the costs and the ones. Assumes nothing.
-use native.Mathlib.Omega.{arith}
+use Rattle.std.proofs.Common.{arith}
 use Rattle.numbering.specs.declared.ColumnName.TheVariants.{CostOf}
 use Rattle.numbering.proofs.Numbers.{layout-column, layout-nvar}
 use Rattle.cells.proofs.Fills.{kept-length}
 use Rattle.cells.proofs.Runs.{one-run, ◌then_runs◌}
 use Rattle.quadratic.proofs.Linear.{linear_runs}
 use Rattle.quadratic.proofs.inner.linear.fill_q.Goals as goal
-
-pub fill_all-requires : goal.fill_all-requires
-fill_all-requires c = omega (arith, c.requires.l_in_bounds)
-
-pub fill_costs-requires : goal.fill_costs-requires
-fill_costs-requires c = record { laid = c.requires.laid; l_in_bounds = omega (arith, c.requires.l_in_bounds, kept-length c.fill_all.ensures) }
 
 pub fill_all-requires-2 : goal.fill_all-requires-2
 fill_all-requires-2 c =

@@ -1,5 +1,5 @@
 -- `record_columns::inner::branches::balance_row` meets its contract: the layout's row is the network's. Assumes nothing.
-use mathlib.Core.Path.{refl, ◌∙◌}
+use Rattle.std.proofs.Common.{refl, ◌∙◌}
 use Rattle.numbering.specs.declared.RowName.TheVariants.{Pbal, Qbal}
 use Rattle.numbering.proofs.Laid.{laid-row}
 use Rattle.record_columns.proofs.inner.branches.balance_row.Goals as goal

@@ -1,5 +1,5 @@
 -- `record_columns::inner::branches::put_flow_cells` meets its contract. Assumes nothing.
-use native.Mathlib.Omega.{arith}
+use Rattle.std.proofs.Common.{arith}
 use Rattle.lists.proofs.Compressed.{then}
 use Rattle.record_columns.specs.Writers.{flow}
 use Rattle.record_columns.proofs.inner.branches.put_flow_cells.Goals as goal

@@ -1,6 +1,5 @@
 -- `record_columns::inner::branches::put_wi` meets its contract: the Ohm rows, the angle rows, then the cone's third row. Assumes nothing.
-use mathlib.Core.Path.{refl, ◌∙◌}
-use native.Mathlib.Omega.{arith}
+use Rattle.std.proofs.Common.{refl, ◌∙◌, arith}
 use Rattle.lists.proofs.Compressed.{then}
 use Rattle.numbering.specs.declared.RowName.TheVariants.{Angub, Anglb, Jabr}
 use Rattle.numbering.proofs.Laid.{laid-row}
@@ -8,12 +7,6 @@ use Rattle.matrix.specs.Columns.{wi_cells}
 use Rattle.record_columns.specs.Writers.{bounds}
 use Rattle.record_columns.proofs.Written.{wi_are}
 use Rattle.record_columns.proofs.inner.branches.put_wi.Goals as goal
-
-pub put_bounds-a2-requires : goal.put_bounds-a2-requires
-put_bounds-a2-requires c = omega (arith, c.put_products-a1.ensures.upper_bound, c.requires.e_lt_m)
-
-pub put-requires : goal.put-requires
-put-requires c = omega (arith, c.put_products-a1.ensures.upper_bound, c.put_bounds-a2.ensures.upper_bound, c.requires.e_lt_m)
 
 pub returns : goal.returns
 unfolding wi_cells bounds
@@ -27,4 +20,8 @@ returns c =
     let p = wi_are a.l b a.e c.wi_products-p.ensures c.series.ensures in
     let upper = c.angub_row-upper.ensures ∙ row (Angub a.e) refl in
     let lower = c.anglb_row-lower.ensures ∙ row (Anglb a.e) refl in
-    let j = c.jabr_row-cone.ensures ∙ row (Jabr a.e 2) refl in record { wrote_cells = then (then (rw p at x.wrote_cells) (rw (c.conic_angle_bound_active-on.ensures, upper, lower) at y.wrote_cells)) (rw j at z.wrote_cells); upper_bound = omega (arith, x.upper_bound, y.upper_bound, z.upper_bound) }
+    let j = c.jabr_row-cone.ensures ∙ row (Jabr a.e 2) refl in
+    record {
+      wrote_cells = then (then (rw p at x.wrote_cells) (rw (c.conic_angle_bound_active-on.ensures, upper, lower) at y.wrote_cells)) (rw j at z.wrote_cells);
+      upper_bound = omega (arith, x.upper_bound, y.upper_bound, z.upper_bound);
+    }

@@ -1,6 +1,5 @@
 -- `record_columns::inner::branches::put_wis` meets its contract: each turn writes one more column. Assumes nothing.
-use Prim.Native.Nat.{◌≤◌, ◌+◌, ◌-◌, ◌*◌}
-use mathlib.Core.Path.{◌≡◌}
+use Rattle.std.proofs.Common.{◌≤◌, ◌+◌, ◌*◌}
 use Rattle.lists.specs.UpTo.{listed}
 use Rattle.lists.specs.Compressed.{cell_out}
 use Rattle.numbering.specs.Laid.{net_of}
@@ -10,8 +9,9 @@ use Rattle.record_columns.proofs.inner.branches.put_wis.Given as goal
 
 abbrev pub invariant-loop-e : goal.invariant-loop-e
 invariant-loop-e l =
-    (l.e ≤ l.m) × (l.m ≡ l.l.m) × (l.col ≤ 294912) × (l.next ≤ l.at + 7 * l.e)
-    × Columns (listed l.e (wi_cells (net_of l.l l.bytes))) l.col l.initial.starts (cell_out l.initial.rows l.initial.vals l.at) l.starts (cell_out l.rows l.vals l.next)
-
-abbrev pub decreases-loop-e : goal.decreases-loop-e
-decreases-loop-e l = l.m - l.e
+    let before = cell_out l.initial.rows l.initial.vals l.at in
+    record {
+      col_bound : l.col ≤ 294912;
+      bound : l.next ≤ l.at + 7 * l.e;
+      written : Columns (listed l.e (wi_cells (net_of l.l l.bytes))) l.col l.initial.starts before l.starts (cell_out l.rows l.vals l.next);
+    }

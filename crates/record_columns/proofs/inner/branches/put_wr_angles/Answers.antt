@@ -1,6 +1,5 @@
 -- `record_columns::inner::branches::put_wr_angles` meets its contract: where the angle rows are active, both are written at their numbers. Assumes nothing.
-use mathlib.Core.Path.{refl, sym, ◌∙◌}
-use native.Mathlib.Omega.{arith}
+use Rattle.std.proofs.Common.{refl, sym, ◌∙◌, arith}
 use Rattle.lists.proofs.Compressed.{then, wrote_none}
 use Rattle.numbering.specs.declared.RowName.TheVariants.{Angub, Anglb}
 use Rattle.numbering.proofs.Laid.{laid-row}
@@ -15,7 +14,8 @@ returns-then-conic_angle_bound_active c =
     let x = c.put_nonzero-next.ensures in
     let y = c.put_nonzero.ensures in
     let upper = rw (c.angub_row-upper.ensures ∙ row (Angub a.e) refl, c.tan_angmax-tmax.ensures) at x.wrote_cells in
-    let lower = rw (c.anglb_row-lower.ensures ∙ row (Anglb a.e) refl, c.tan_angmin-tmin.ensures) at y.wrote_cells in record { wrote_cells = rw (sym c.conic_angle_bound_active.ensures ∙ c.if-conic_angle_bound_active.true) (then upper lower); upper_bound = omega (arith, x.upper_bound, y.upper_bound) }
+    let lower = rw (c.anglb_row-lower.ensures ∙ row (Anglb a.e) refl, c.tan_angmin-tmin.ensures) at y.wrote_cells in
+    record { wrote_cells = rw (sym c.conic_angle_bound_active.ensures ∙ c.if-conic_angle_bound_active.true) (then upper lower); upper_bound = omega (arith, x.upper_bound, y.upper_bound) }
 
 pub returns : goal.returns
 unfolding wr_angles

@@ -1,36 +1,19 @@
 -- `record_columns::inner::branches::put_wrs` meets its contract: each turn writes one more column. Assumes nothing.
-use Prim.Native.Nat.{◌-◌}
-use mathlib.Core.Path.{refl}
-use native.Mathlib.Omega.{arith}
-use Rattle.lists.proofs.Compressed.{len-rows, len-vals}
+use Rattle.std.proofs.Common.{arith}
 use Rattle.numbering.specs.declared.ColumnName.TheVariants.{Wr}
 use Rattle.numbering.proofs.Numbers.{layout-column}
-use Rattle.cells.proofs.Ends.{columns-none, columns-more, columns-all, columns-starts}
+use Rattle.cells.proofs.Ends.{columns-none, columns-more}
 use Rattle.record_columns.proofs.inner.branches.put_wrs.Goals as goal
 
 pub loop-e-init : goal.loop-e-init
-loop-e-init c = (omega arith, refl, omega (arith, layout-column c.args.l (Wr 0)), omega arith, columns-none _)
-
-pub put_wr-next-requires : goal.put_wr-next-requires
-put_wr-next-requires c = record { laid = c.requires.laid; e_lt_m = (omega arith, omega (arith, c.loop-e.invariant.3, c.requires.at_bound, c.requires.laid.range.m-range)) }
-
-pub overflow_cast-next : goal.overflow_cast-next
-overflow_cast-next c = omega (arith, c.put_wr-next.ensures.upper_bound, c.loop-e.invariant.3, c.requires.at_bound, c.requires.laid.range.m-range)
+loop-e-init c = record { col_bound = omega (arith, layout-column c.args.l (Wr 0)); bound = omega arith; written = columns-none _ }
 
 pub loop-e-preserved : goal.loop-e-preserved
 loop-e-preserved c =
     let o = c.loop-e.invariant in
     let w = c.put_wr-next.ensures in
-    (omega arith, o.1, o.2, omega (arith, w.upper_bound, o.3), columns-more _ o.4 w.wrote_cells c.store_u32.ensures (omega arith))
-
-pub shape_of-starts : goal.shape_of-starts
-shape_of-starts c = columns-starts c.loop-e.invariant.4
-
-pub shape_of-rows : goal.shape_of-rows
-shape_of-rows c = len-rows c.loop-e.invariant.4.cells
-
-pub shape_of-vals : goal.shape_of-vals
-shape_of-vals c = len-vals c.loop-e.invariant.4.cells
-
-pub returns : goal.returns
-returns c = rw (← c.wr_column-col.ensures) (record { columns = columns-all _ (omega arith) c.loop-e.invariant.4; upper_bound = omega arith })
+    record {
+      col_bound = o.col_bound;
+      bound = omega (arith, w.upper_bound, o.bound);
+      written = columns-more _ o.written w.wrote_cells c.store.ensures (omega arith);
+    }

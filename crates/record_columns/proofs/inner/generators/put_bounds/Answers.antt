@@ -1,5 +1,5 @@
 -- `record_columns::inner::generators::put_bounds` meets its contract. Assumes nothing.
-use native.Mathlib.Omega.{arith}
+use Rattle.std.proofs.Common.{arith}
 use Rattle.lists.proofs.Compressed.{then, wrote_none}
 use Rattle.record_columns.specs.Writers.{bounds}
 use Rattle.record_columns.proofs.inner.generators.put_bounds.Goals as goal

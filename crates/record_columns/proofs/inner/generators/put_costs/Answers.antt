@@ -1,10 +1,6 @@
 -- `record_columns::inner::generators::put_costs` meets its contract: each turn writes the column of a piecewise generator, behind those before it. Assumes nothing.
-use Prim.Native.Nat.{◌+◌, ◌-◌}
-use mathlib.Core.Path.{◌≡◌, refl, ap}
-use native.Mathlib.Omega.{arith}
-use lib.ListN.{length, length-append}
+use Rattle.std.proofs.Common.{◌∙◌, ◌+◌, ◌≡◌, refl, ap, arith, length, length-append}
 use Rattle.lists.specs.UpTo.{up_to, each, sum, bit}
-use Rattle.lists.proofs.Compressed.{len-rows, len-vals}
 use Rattle.lists.proofs.Each.{each_more}
 use Rattle.lists.proofs.Sums.{sum-next, each-le, bit_le}
 use Rattle.numbering.specs.Layout.{layout_row}
@@ -12,7 +8,8 @@ use Rattle.numbering.specs.Laid.{net_of}
 use Rattle.numbering.specs.declared.ColumnName.TheVariants.{CostOf}
 use Rattle.numbering.specs.declared.RowName.TheVariants.{Segment}
 use Rattle.numbering.proofs.Numbers.{layout-column, layout_row_lem}
-use Rattle.cells.proofs.Ends.{columns-starts, columns-start, columns-end}
+use Rattle.cells.proofs.Sizes.{as_bit}
+use Rattle.cells.proofs.Ends.{columns-start}
 use Rattle.record_columns.specs.Writers.{cost_turn}
 use Rattle.records.proofs.Segments.{segments-fit, segments-below}
 use Rattle.record_columns.proofs.Written.{costs_are, turn-length, turn-le, turned}
@@ -24,12 +21,20 @@ loop-g-init c =
     let a = c.args in
     let p = layout_row_lem a.l (Segment 0 0) in
     let q = layout-column a.l (CostOf 0) in
-    (omega arith, refl, (c.segment_row-base.ensures, omega (arith, p), omega (arith, q)), refl, omega arith, omega arith, columns-start (cost_turn (net_of a.l a.bytes.now)))
+    record {
+      base_row = c.segment_row-base.ensures;
+      base_bound = omega (arith, p);
+      first_bound = omega (arith, q);
+      segments = refl;
+      bound = omega arith;
+      column = omega arith;
+      written = columns-start (cost_turn (net_of a.l a.bytes.now));
+    }
 
 pub overflow_add-base : goal.overflow_add-base
 overflow_add-base c =
     let o = c.loop-g.invariant in
-    omega (arith, segments-below c.requires.laid.accepted c.loop-g.g (omega arith), o.2.1, o.3, c.requires.laid.range.s-range)
+    omega (arith, segments-below c.requires.laid.accepted c.loop-g.g (omega arith), o.base_bound, o.segments, c.requires.laid.range.s-range)
 
 pub put_cost-next-requires : goal.put_cost-next-requires
 put_cost-next-requires c =
@@ -40,7 +45,12 @@ put_cost-next-requires c =
     let o = c.loop-g.invariant in
     let h = segments-fit r.accepted g (omega arith) in
     let u = each-le g 1 (cost_turn (net_of a.l b)) (λ i. turn-le a.l b i) in
-    let f = r.accepted.few-segments in record { at_bound = (omega (arith, h, o.3, o.4, f, c.requires.at_bound), omega (arith, h, c.segments-count.ensures.value, f), omega (arith, h, o.2.1, o.3, f)); c_bound = omega (arith, u, o.2.2, o.5, r.range.k-range) }
+    let f = r.accepted.few-segments in
+    let many = c.segments-count.ensures.value in
+    record {
+      at_bound = (omega (arith, h, o.segments, o.bound, f, c.requires.at_bound), omega (arith, h, many, f), omega (arith, h, o.base_bound, o.segments, f));
+      c_bound = omega (arith, u, o.first_bound, o.column, r.range.k-range);
+    }
 
 pub overflow_add-c : goal.overflow_add-c
 overflow_add-c c =
@@ -49,14 +59,14 @@ overflow_add-c c =
     let g = c.loop-g.g in
     let o = c.loop-g.invariant in
     let u = each-le g 1 (cost_turn (net_of a.l b)) (λ i. turn-le a.l b i) in
-    omega (arith, u, o.2.2, o.5, c.bit-c.ensures.value, bit_le c.piecewise-on.result, c.requires.laid.range.k-range)
+    omega (arith, u, o.first_bound, o.column, c.from-c.ensures ∙ as_bit c.piecewise-on.result, bit_le c.piecewise-on.result, c.requires.laid.range.k-range)
 
 pub overflow_add-seg : goal.overflow_add-seg
 overflow_add-seg c =
     let a = c.args in
     let r = c.requires.laid in
     let h = segments-fit r.accepted c.loop-g.g (omega arith) in
-    omega (arith, h, c.segments-count.ensures.value, c.loop-g.invariant.3, r.accepted.few-segments)
+    omega (arith, h, c.segments-count.ensures.value, c.loop-g.invariant.segments, r.accepted.few-segments)
 
 pub loop-g-preserved : goal.loop-g-preserved
 loop-g-preserved c =
@@ -70,29 +80,16 @@ loop-g-preserved c =
     let base = c.segment_row-base.result in
     let p : c.piecewise-on.result ≡ G.piecewise g = c.piecewise-on.ensures in
     let q : base + c.loop-g.seg ≡ layout_row a.l (Segment (sum g G.segments) 0) =
-    omega (arith, o.2.0, o.3, layout_row_lem a.l (Segment 0 0), layout_row_lem a.l (Segment (sum g G.segments) 0)) in
+    omega (arith, o.base_row, o.segments, layout_row_lem a.l (Segment 0 0), layout_row_lem a.l (Segment (sum g G.segments) 0)) in
     let x = c.put_cost-next.ensures in
-    let w = rw (p, costs_are a.l b g q n) at x.columns in (
-      omega arith,
-      o.1,
-      o.2,
-      omega (arith, n, o.3, sum-next g G.segments),
-      omega (arith, x.upper_bound, o.4),
-      omega (arith, o.5, c.bit-c.ensures.value, ap bit p, turn-length a.l b g, ap length (each_more T g), length-append (each g T) (T g)),
-      turned a.l b g o.6 o.5 w,
-    )
-
-pub shape_of-starts : goal.shape_of-starts
-shape_of-starts c = columns-starts c.loop-g.invariant.6
-
-pub shape_of-rows : goal.shape_of-rows
-shape_of-rows c = len-rows c.loop-g.invariant.6.cells
-
-pub shape_of-vals : goal.shape_of-vals
-shape_of-vals c = len-vals c.loop-g.invariant.6.cells
-
-pub returns : goal.returns
-returns c =
-    let a = c.args in
-    let o = c.loop-g.invariant in
-    rw (← c.cost_column-c.ensures) (record { columns = columns-end _ (omega arith) o.6; upper_bound = omega (arith, o.3, o.4, segments-below c.requires.laid.accepted c.loop-g.g (omega arith)) })
+    let w = rw (p, costs_are a.l b g q n) at x.columns in
+    let one : c.from-c.result ≡ bit c.piecewise-on.result = c.from-c.ensures ∙ as_bit c.piecewise-on.result in
+    record {
+      base_row = o.base_row;
+      base_bound = o.base_bound;
+      first_bound = o.first_bound;
+      segments = omega (arith, n, o.segments, sum-next g G.segments);
+      bound = omega (arith, x.upper_bound, o.bound);
+      column = omega (arith, o.column, one, ap bit p, turn-length a.l b g, ap length (each_more T g), length-append (each g T) (T g));
+      written = turned a.l b g o.written o.column w;
+    }

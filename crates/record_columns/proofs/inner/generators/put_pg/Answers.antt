@@ -1,7 +1,5 @@
 -- `record_columns::inner::generators::put_pg` meets its contract: the generator's segments have the rows behind those of the generators before it. Assumes nothing.
-use Prim.Native.Nat.{ℕ, ◌+◌}
-use mathlib.Core.Path.{◌≡◌, ap, ◌∙◌}
-use native.Mathlib.Omega.{arith}
+use Rattle.std.proofs.Common.{ℕ, ◌+◌, ◌≡◌, ap, ◌∙◌, arith}
 use Rattle.lists.proofs.Compressed.{then}
 use Rattle.numbering.specs.Layout.{layout_row}
 use Rattle.numbering.specs.declared.RowName.TheVariants.{Segment}
@@ -30,7 +28,25 @@ put_slopes-requires c =
     let r = c.requires.laid in
     let d = r.range in
     let n = segments-fit r.accepted a.g c.requires.g_lt_k.0 in
-    let p : c.segment_row-row.result ≡ layout_row a.l (Segment a.seg 0) = c.segment_row-row.ensures in record { at_bound = (omega (arith, c.put_pg_head-next.ensures.upper_bound, c.requires.g_lt_k), omega (arith, n, c.requires.seg_value, r.accepted.few-segments), omega (arith, p, layout_row_lem a.l (Segment a.seg 0), n, c.requires.seg_value, d.n-range, d.m-range, d.k-range, d.s-range)); count_in_bounds = rw r.accepted.size (omega (arith, n, c.requires.seg_value)) }
+    let p : c.segment_row-row.result ≡ layout_row a.l (Segment a.seg 0) = c.segment_row-row.ensures in
+    record {
+      at_bound = (
+        omega (arith, c.put_pg_head-next.ensures.upper_bound, c.requires.g_lt_k),
+        omega (arith, n, c.requires.seg_value, r.accepted.few-segments),
+        omega (
+          arith,
+          p,
+          layout_row_lem a.l (Segment a.seg 0),
+          n,
+          c.requires.seg_value,
+          d.n-range,
+          d.m-range,
+          d.k-range,
+          d.s-range,
+        ),
+      );
+      count_in_bounds = rw r.accepted.size (omega (arith, n, c.requires.seg_value));
+    }
 
 pub returns : goal.returns
 unfolding pg_cells pg_head
@@ -40,4 +56,5 @@ returns c =
     let x = c.put_pg_head-next.ensures in
     let y = c.put_slopes.ensures in
     let q = c.segment_row-row.ensures ∙ ap (λ (r : ℕ). layout_row a.l (Segment r 0)) h.0 in
-    let e = slopes_are a.l a.bytes.now a.g (ap (λ (r : ℕ). a.l.n + a.l.m + a.l.k + r) h.0) q h.1 in record { wrote_cells = then x.wrote_cells (rw e at y.wrote_cells); upper_bound = omega (arith, x.upper_bound, y.upper_bound) }
+    let e = slopes_are a.l a.bytes.now a.g (ap (λ (r : ℕ). a.l.n + a.l.m + a.l.k + r) h.0) q h.1 in
+    record { wrote_cells = then x.wrote_cells (rw e at y.wrote_cells); upper_bound = omega (arith, x.upper_bound, y.upper_bound) }

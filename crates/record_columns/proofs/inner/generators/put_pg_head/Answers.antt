@@ -1,7 +1,5 @@
 -- `record_columns::inner::generators::put_pg_head` meets its contract: the balance row and the bounds are written at their numbers. Assumes nothing.
-use Prim.Native.Nat.{ℕ}
-use mathlib.Core.Path.{refl, ap, ◌∙◌}
-use native.Mathlib.Omega.{arith}
+use Rattle.std.proofs.Common.{ℕ, refl, ap, ◌∙◌, arith}
 use Rattle.lists.proofs.Compressed.{then}
 use Rattle.numbering.specs.Layout.{layout_row}
 use Rattle.numbering.specs.Laid.{net_of}
@@ -9,10 +7,6 @@ use Rattle.numbering.specs.declared.RowName.TheVariants.{Pbal, Pgub, Pglb}
 use Rattle.numbering.proofs.Laid.{laid-row}
 use Rattle.record_columns.specs.Writers.{bounds, pg_head}
 use Rattle.record_columns.proofs.inner.generators.put_pg_head.Goals as goal
-
-pub pbal_row-balance-requires : goal.pbal_row-balance-requires
-pbal_row-balance-requires c =
-    let h = c.requires in record { in_range = h.laid.range; i_le_n = rw c.gen_bus-bus.ensures (omega (arith, h.laid.accepted.bus_below c.args.g h.g_lt_k.0)) }
 
 pub returns : goal.returns
 unfolding pg_head bounds
@@ -24,4 +18,5 @@ returns c =
     let y = c.put_bounds.ensures in
     let q = c.pbal_row-balance.ensures ∙ ap (λ (i : ℕ). layout_row a.l (Pbal i)) c.gen_bus-bus.ensures ∙ row (Pbal ((net_of a.l b).gen_bus a.g)) refl in
     let upper = c.pgub_row-upper.ensures ∙ row (Pgub a.g) refl in
-    let lower = c.pglb_row-lower.ensures ∙ row (Pglb a.g) refl in record { wrote_cells = then (rw q at x.wrote_cells) (rw (c.generator_capability_active-on.ensures, upper, lower) at y.wrote_cells); upper_bound = omega (arith, x.upper_bound, y.upper_bound) }
+    let lower = c.pglb_row-lower.ensures ∙ row (Pglb a.g) refl in
+    record { wrote_cells = then (rw q at x.wrote_cells) (rw (c.generator_capability_active-on.ensures, upper, lower) at y.wrote_cells); upper_bound = omega (arith, x.upper_bound, y.upper_bound) }

@@ -1,6 +1,5 @@
 -- `record_columns::inner::generators::put_pgs` meets its contract: each turn writes one more column. Assumes nothing.
-use Prim.Native.Nat.{◌≤◌, ◌+◌, ◌-◌, ◌*◌}
-use mathlib.Core.Path.{◌≡◌}
+use Rattle.std.proofs.Common.{◌≤◌, ◌+◌, ◌*◌, ◌≡◌}
 use Rattle.lists.specs.UpTo.{listed, sum}
 use Rattle.lists.specs.Compressed.{cell_out}
 use Rattle.numbering.specs.Laid.{net_of}
@@ -10,8 +9,12 @@ use Rattle.record_columns.proofs.inner.generators.put_pgs.Given as goal
 
 abbrev pub invariant-loop-g : goal.invariant-loop-g
 invariant-loop-g l =
-    (l.g ≤ l.k) × (l.k ≡ l.l.k) × (l.first ≡ l.l.n + l.l.m) × (l.col ≤ 294912) × (l.seg ≡ sum l.g (net_of l.l l.bytes).segments) × (l.next ≤ 3 * l.g + l.seg)
-    × Columns (listed l.g (pg_cells (net_of l.l l.bytes))) l.col l.initial.starts (cell_out l.initial.rows l.initial.vals l.at) l.starts (cell_out l.rows l.vals l.next)
-
-abbrev pub decreases-loop-g : goal.decreases-loop-g
-decreases-loop-g l = l.k - l.g
+    let G = net_of l.l l.bytes in
+    let before = cell_out l.initial.rows l.initial.vals l.at in
+    record {
+      behind : l.first ≡ l.l.n + l.l.m;
+      col_bound : l.col ≤ 294912;
+      segments : l.seg ≡ sum l.g G.segments;
+      bound : l.next ≤ 3 * l.g + l.seg;
+      written : Columns (listed l.g (pg_cells G)) l.col l.initial.starts before l.starts (cell_out l.rows l.vals l.next);
+    }

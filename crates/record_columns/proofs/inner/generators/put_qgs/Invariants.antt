@@ -1,6 +1,5 @@
 -- `record_columns::inner::generators::put_qgs` meets its contract: each turn writes one more column. Assumes nothing.
-use Prim.Native.Nat.{◌≤◌, ◌+◌, ◌-◌, ◌*◌}
-use mathlib.Core.Path.{◌≡◌}
+use Rattle.std.proofs.Common.{◌≤◌, ◌+◌, ◌*◌}
 use Rattle.lists.specs.UpTo.{listed}
 use Rattle.lists.specs.Compressed.{cell_out}
 use Rattle.numbering.specs.Laid.{net_of}
@@ -10,8 +9,9 @@ use Rattle.record_columns.proofs.inner.generators.put_qgs.Given as goal
 
 abbrev pub invariant-loop-g : goal.invariant-loop-g
 invariant-loop-g l =
-    (l.g ≤ l.k) × (l.k ≡ l.l.k) × (l.col ≤ 294912) × (l.next ≤ l.at + 3 * l.g)
-    × Columns (listed l.g (qg_cells (net_of l.l l.bytes))) l.col l.initial.starts (cell_out l.initial.rows l.initial.vals l.at) l.starts (cell_out l.rows l.vals l.next)
-
-abbrev pub decreases-loop-g : goal.decreases-loop-g
-decreases-loop-g l = l.k - l.g
+    let before = cell_out l.initial.rows l.initial.vals l.at in
+    record {
+      col_bound : l.col ≤ 294912;
+      bound : l.next ≤ l.at + 3 * l.g;
+      written : Columns (listed l.g (qg_cells (net_of l.l l.bytes))) l.col l.initial.starts before l.starts (cell_out l.rows l.vals l.next);
+    }

@@ -1,12 +1,13 @@
 -- `record_columns::inner::generators::put_slopes` meets its contract. Assumes nothing.
-use Prim.Native.Nat.{◌≤◌, ◌+◌, ◌-◌}
+use Rattle.std.proofs.Common.{◌≤◌, ◌+◌}
 use Rattle.lists.specs.UpTo.{each}
 use Rattle.lists.specs.Compressed.{cell_out, WroteCells}
 use Rattle.record_columns.specs.Writers.{slopes}
 use Rattle.record_columns.proofs.inner.generators.put_slopes.Given as goal
 
 abbrev pub invariant-loop-t : goal.invariant-loop-t
-invariant-loop-t l = (l.t ≤ l.count) × (l.next ≤ l.at + l.t) × WroteCells (each l.t (slopes l.bytes l.first l.row)) (cell_out l.initial.rows l.initial.vals l.at) (cell_out l.rows l.vals l.next)
-
-abbrev pub decreases-loop-t : goal.decreases-loop-t
-decreases-loop-t l = l.count - l.t
+invariant-loop-t l =
+    record {
+      bound : l.next ≤ l.at + l.t;
+      written : WroteCells (each l.t (slopes l.bytes l.first l.row)) (cell_out l.initial.rows l.initial.vals l.at) (cell_out l.rows l.vals l.next);
+    }

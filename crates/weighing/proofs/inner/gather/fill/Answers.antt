@@ -1,19 +1,9 @@
-use Prim.Native.Nat.{ℕ, ◌+◌, ◌<◌, ◌≤◌, ◌-◌}
-use mathlib.Core.Path.{◌≡◌, refl, sym, ◌∙◌}
-use native.Mathlib.Nat.{mul-le-mul, add-zero}
-use native.Mathlib.Omega.{arith}
-use lib.ListN.{length-set}
-use lib.Seq.{get_or-set_same}
+use Rattle.std.proofs.Common.{ℕ, ◌+◌, ◌<◌, ◌≡◌, refl, sym, ◌∙◌, add-zero, arith, length-set, get_or-set_same}
 use Rattle.weighing.specs.Gathering.{passed_rows}
-use Rattle.sparse.proofs.Places.{column-inside, next-column}
+use Rattle.sparse.proofs.Places.{next-column}
 use Rattle.weighing.proofs.Walked.{passed-before, passed_here, passed-after}
 use Rattle.weighing.proofs.Filled.{segmented_none, segmented_more, filling_part, filling_whole}
 use Rattle.weighing.proofs.inner.gather.fill.Goals as goal
-
-pub overflow_mul-base : goal.overflow_mul-base
-overflow_mul-base c =
-    let l : c.args.column ≤ 65536 = omega arith in
-    omega (arith, mul-le-mul l c.requires.column_lt_columns.2)
 
 pub loop-got-init : goal.loop-got-init
 loop-got-init c = (
@@ -30,30 +20,16 @@ loop-got-init c = (
   segmented_none _ (get_or-set_same c.args.starts.now 0 0 0 (omega arith)),
 )
 
-pub gather-got-requires : goal.gather-got-requires
-gather-got-requires c =
-    let l : c.args.column + c.loop-got.s < c.args.columns = omega arith in
-    let i = column-inside (c.args.column + c.loop-got.s) c.args.columns c.args.dim l in
-    (c.loop-got.invariant.4, c.requires.column_lt_columns.2, omega arith, c.loop-got.invariant.6, c.loop-got.invariant.8, c.loop-got.invariant.9)
-
-pub overflow_cast-starts : goal.overflow_cast-starts
-overflow_cast-starts c = omega (arith, c.gather-got.ensures.0.room)
-
-pub shape_of-starts-then-got-dim : goal.shape_of-starts-then-got-dim
-shape_of-starts-then-got-dim c = simp length-set (omega arith)
-
 pub returns-then-got-dim : goal.returns-then-got-dim
 returns-then-got-dim c =
     let l : c.args.column + c.loop-got.s < c.args.columns = omega arith in
     let o = passed_here c.args.dim (c.args.column + c.loop-got.s) c.gather-got.result.next (c.args.column + c.loop-got.s) refl in
-    let e : (t : ℕ) → t < c.loop-got.s → c.args.dim ≡ passed_rows c.args.dim (c.args.column + c.loop-got.s) c.gather-got.result.next (c.args.column + t) = λ t i. sym (passed-before _ _ _ _ (omega arith)) in
+    let e : (t : ℕ) → t < c.loop-got.s → c.args.dim
+    ≡ passed_rows c.args.dim (c.args.column + c.loop-got.s) c.gather-got.result.next (c.args.column + t) = λ t i. sym (passed-before _ _ _ _ (omega arith)) in
     rw c.loop-got.invariant.1
     (filling_part c.args.dim c.args.columns c.args.column c.args.row c.requires.column_lt_columns.1 c.loop-got.invariant.0 l c.gather-got.ensures.0.room c.gather-got.result.next
     (segmented_more c.loop-got.invariant.10 (omega arith) (rw (o, ← c.loop-got.invariant.3, ← c.loop-got.invariant.5) c.gather-got.ensures.1) e)
     c.if-got-dim.true (rw (← c.loop-got.invariant.3) c.gather-got.ensures.0.moved))
-
-pub shape_of-starts-then-stops : goal.shape_of-starts-then-stops
-shape_of-starts-then-stops c = simp length-set (omega arith)
 
 pub returns-then-stops : goal.returns-then-stops
 returns-then-stops c =
@@ -65,12 +41,6 @@ returns-then-stops c =
     rw q
     (filling_whole c.args.dim c.args.columns c.args.column c.args.row c.requires.column_lt_columns.1 c.loop-got.invariant.0 l c.gather-got.ensures.0.room
     (segmented_more c.loop-got.invariant.10 (omega arith) (rw (o, ← c.loop-got.invariant.3, ← c.loop-got.invariant.5) (rw f at c.gather-got.ensures.1)) e))
-
-pub overflow_add-base : goal.overflow_add-base
-overflow_add-base c =
-    let l : c.args.column + c.loop-got.s < c.args.columns = omega arith in
-    let i = column-inside (c.args.column + c.loop-got.s) c.args.columns c.args.dim l in
-    omega arith
 
 pub loop-got-preserved : goal.loop-got-preserved
 loop-got-preserved c =

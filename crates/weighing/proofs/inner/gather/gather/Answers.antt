@@ -1,6 +1,4 @@
-use Prim.Native.Nat.{◌<◌, ◌≤◌, ◌-◌}
-use mathlib.Core.Path.{refl}
-use native.Mathlib.Omega.{arith}
+use Rattle.std.proofs.Common.{refl, arith}
 use Rattle.weighing.proofs.Buffer.{passed-by, added-joined, span_none, span-joined}
 use Rattle.weighing.proofs.inner.gather.gather.Goals as goal
 
@@ -10,22 +8,9 @@ loop-r-init c = (omega arith, c.requires.0, c.requires.3, refl, refl, rw (span_n
 pub returns-then-r-dim : goal.returns-then-r-dim
 returns-then-r-dim c = (
   record { moved = omega arith; inside = omega arith; room = omega arith; full = λ l. omega arith },
-  rw (span-joined c.args.rhs.now c.args.base c.args.first c.loop-r.r c.lesser-past.result (omega arith) (omega arith))
+  rw (span-joined c.args.rhs.now c.args.base c.args.first c.loop-r.r c.min-past.result (omega arith) (omega arith))
       (added-joined c.loop-r.invariant.5 c.scan-m.ensures.1 (omega arith) (omega arith)),
 )
-
-pub returns-then-m-eq512 : goal.returns-then-m-eq512
-returns-then-m-eq512 c = (
-  record { moved = omega arith; inside = omega arith; room = omega arith; full = λ l. omega arith },
-  rw (span-joined c.args.rhs.now c.args.base c.args.first c.loop-r.r c.lesser-past.result (omega arith) (omega arith))
-      (added-joined c.loop-r.invariant.5 c.scan-m.ensures.1 (omega arith) (omega arith)),
-)
-
-pub loop-r-smaller : goal.loop-r-smaller
-loop-r-smaller c =
-    let e : c.loop-r.r < c.lesser-past.result = omega arith in
-    let f : c.lesser-past.result ≤ c.args.dim = omega arith in
-    omega arith
 
 pub loop-r-preserved : goal.loop-r-preserved
 loop-r-preserved c = (
@@ -34,6 +19,6 @@ loop-r-preserved c = (
   omega arith,
   omega arith,
   omega arith,
-  rw (span-joined c.args.rhs.now c.args.base c.args.first c.loop-r.r c.lesser-past.result (omega arith) (omega arith))
+  rw (span-joined c.args.rhs.now c.args.base c.args.first c.loop-r.r c.min-past.result (omega arith) (omega arith))
       (added-joined c.loop-r.invariant.5 c.scan-m.ensures.1 (omega arith) (omega arith)),
 )

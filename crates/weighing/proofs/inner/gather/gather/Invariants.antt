@@ -1,11 +1,11 @@
-use Prim.Native.Nat.{◌<◌, ◌≤◌, ◌-◌}
-use mathlib.Core.Path.{◌≡◌}
-use lib.ListN.{length}
+use Rattle.std.proofs.Common.{◌<◌, ◌≤◌, ◌-◌, ◌≡◌, length}
 use Rattle.weighing.specs.Gathering.{span, Added}
 use Rattle.weighing.proofs.inner.gather.gather.Given as goal
 
 abbrev pub invariant-loop-r : goal.invariant-loop-r
-invariant-loop-r l = (l.first ≤ l.r) × (l.r < l.dim) × (l.m < 512) × (length l.rows ≡ length l.initial.rows) × (length l.values ≡ length l.initial.values) × Added l.dim (span l.rhs l.base l.first l.r) l.initial.rows l.initial.values l.n l.rows l.values l.m
+invariant-loop-r l =
+    (l.first ≤ l.r) × (l.r < l.dim) × (l.m < 512) × (length l.rows ≡ length l.initial.rows) × (length l.values ≡ length l.initial.values)
+    × Added l.dim (span l.rhs l.base l.first l.r) l.initial.rows l.initial.values l.n l.rows l.values l.m
 
 abbrev pub decreases-loop-r : goal.decreases-loop-r
 decreases-loop-r l = l.dim - l.r

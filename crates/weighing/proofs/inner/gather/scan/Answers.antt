@@ -1,6 +1,4 @@
-use Prim.Native.Nat.{◌+◌, ◌-◌}
-use mathlib.Core.Path.{◌≡◌, refl}
-use native.Mathlib.Omega.{arith}
+use Rattle.std.proofs.Common.{◌+◌, refl, arith}
 use Rattle.weighing.proofs.Buffer.{passed-by, added-joined, span_none, span-joined, span-one}
 use Rattle.weighing.proofs.inner.gather.scan.Goals as goal
 
@@ -17,8 +15,3 @@ loop-r-preserved c = (
   rw (span-joined c.args.rhs.now c.args.base c.args.first c.loop-r.r (c.loop-r.r + 1) (omega arith) (omega arith), span-one c.args.rhs.now c.args.base c.loop-r.r)
       (added-joined c.loop-r.invariant.5 c.put-m.ensures.1 (omega arith) (omega arith)),
 )
-
-pub returns : goal.returns
-returns c =
-    let e : c.loop-r.r ≡ c.args.past = omega arith in
-    (omega arith, rw e at c.loop-r.invariant.5)

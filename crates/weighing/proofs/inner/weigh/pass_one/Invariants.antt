@@ -1,10 +1,6 @@
-use Prim.Native.Nat.{◌+◌, ◌*◌, ◌≤◌, ◌-◌}
-use mathlib.Core.Path.{◌≡◌}
+use Rattle.std.proofs.Common.{◌+◌, ◌*◌, ◌≡◌}
 use Rattle.weighing.specs.Passes.{place, Below, Passed, weighed_at}
 use Rattle.weighing.proofs.inner.weigh.pass_one.Given as goal
 
 abbrev pub invariant-loop-s : goal.invariant-loop-s
-invariant-loop-s l = (l.s ≤ l.segments) × (l.p ≡ l.at + l.s * l.across) × Passed (place l.at 0 l.across) (Below 1 l.s) (weighed_at l.x l.base l.dim l.starts l.rows l.weights) l.initial.out l.out
-
-abbrev pub decreases-loop-s : goal.decreases-loop-s
-decreases-loop-s l = l.segments - l.s
+invariant-loop-s l = (l.p ≡ l.at + l.s * l.across) × Passed (place l.at 0 l.across) (Below 1 l.s) (weighed_at l.x l.base l.dim l.starts l.rows l.weights) l.initial.out l.out

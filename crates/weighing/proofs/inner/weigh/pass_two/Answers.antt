@@ -1,84 +1,46 @@
-use Prim.Native.Nat.{◌-◌}
-use mathlib.Core.Path.{◌≡◌, refl}
-use native.Mathlib.Nat.{zero-mul}
-use native.Mathlib.Omega.{arith}
-use lib.ListN.{length-set}
+use Rattle.std.proofs.Common.{arith, length-set}
 use Rattle.sparse.specs.Sparse.{item_of}
-use Rattle.weighing.proofs.Cells.{passed_none}
 use Rattle.sparse.proofs.Places.{next-column}
 use Rattle.weighing.proofs.Rows.{first-inside, second-inside, two-rows, first_base, second_base}
-use Rattle.std.proofs.Common.{rules}
 use Rattle.weighing.proofs.inner.weigh.pass_two.Goals as goal
 
-pub loop-s-init : goal.loop-s-init
-loop-s-init c = (omega arith, refl, omega (arith, zero-mul c.args.across), refl, passed_none (λ d s b. omega arith))
-
-pub offset_bounds-starts-s : goal.offset_bounds-starts-s
-offset_bounds-starts-s c = let f = c.requires.spread.1 in omega arith
-
-pub bounds-starts-s : goal.bounds-starts-s
-bounds-starts-s c = let f = c.requires.spread.1 in omega arith
-
-pub overflow_add-s : goal.overflow_add-s
-overflow_add-s c = let f = c.requires.spread.1 in omega arith
-
-pub offset_bounds-starts-s-in-loop-s : goal.offset_bounds-starts-s-in-loop-s
-offset_bounds-starts-s-in-loop-s c = let f = c.requires.spread.1 in omega arith
-
-pub bounds-starts-s-in-loop-s : goal.bounds-starts-s-in-loop-s
-bounds-starts-s-in-loop-s c = let f = c.requires.spread.1 in omega arith
-
 pub offset_bounds-out-p : goal.offset_bounds-out-p
-offset_bounds-out-p c = omega (arith, first-inside c.requires.spread.0 c.loop-s.s (omega arith) c.loop-s-test.true, c.loop-s.invariant.4.long)
+offset_bounds-out-p c = omega (arith, first-inside c.requires.spread.0 c.loop-s.s (omega arith) c.loop-s-test.true, c.loop-s.invariant.3.long)
 
 pub bounds-out-p : goal.bounds-out-p
-bounds-out-p c = omega (arith, first-inside c.requires.spread.0 c.loop-s.s (omega arith) c.loop-s-test.true, c.loop-s.invariant.4.long)
+bounds-out-p c = omega (arith, first-inside c.requires.spread.0 c.loop-s.s (omega arith) c.loop-s-test.true, c.loop-s.invariant.3.long)
 
 pub offset_bounds-out-q : goal.offset_bounds-out-q
-offset_bounds-out-q c = omega (arith, second-inside c.requires.spread.0 c.loop-s.s (omega arith) c.loop-s-test.true, c.loop-s.invariant.4.long)
+offset_bounds-out-q c = omega (arith, second-inside c.requires.spread.0 c.loop-s.s (omega arith) c.loop-s-test.true, c.loop-s.invariant.3.long)
 
 pub bounds-out-q : goal.bounds-out-q
-bounds-out-q c = omega (arith, second-inside c.requires.spread.0 c.loop-s.s (omega arith) c.loop-s-test.true, c.loop-s.invariant.4.long)
-
-pub weigh_two-two-requires : goal.weigh_two-two-requires
-weigh_two-two-requires c =
-    let f = c.requires.spread.1 in
-    let l = c.loop-s-test.true in record { first_le_past = (rw (c.wide-first.ensures.value, c.wide-past.ensures.value) (f.rises _ l), rw c.wide-past.ensures.value (f.rows-within _ l), rw c.wide-past.ensures.value (f.weights_within _ l), omega arith, omega arith); by_index = rw c.wide-past.ensures.value (f.below _ l) }
+bounds-out-q c = omega (arith, second-inside c.requires.spread.0 c.loop-s.s (omega arith) c.loop-s-test.true, c.loop-s.invariant.3.long)
 
 pub offset_bounds-out-p-in-loop-s : goal.offset_bounds-out-p-in-loop-s
-offset_bounds-out-p-in-loop-s c = omega (arith, first-inside c.requires.spread.0 c.loop-s.s (omega arith) c.loop-s-test.true, c.loop-s.invariant.4.long)
+offset_bounds-out-p-in-loop-s c = omega (arith, first-inside c.requires.spread.0 c.loop-s.s (omega arith) c.loop-s-test.true, c.loop-s.invariant.3.long)
 
 pub bounds-out-p-in-loop-s : goal.bounds-out-p-in-loop-s
-bounds-out-p-in-loop-s c = omega (arith, first-inside c.requires.spread.0 c.loop-s.s (omega arith) c.loop-s-test.true, c.loop-s.invariant.4.long)
+bounds-out-p-in-loop-s c = omega (arith, first-inside c.requires.spread.0 c.loop-s.s (omega arith) c.loop-s-test.true, c.loop-s.invariant.3.long)
 
 pub offset_bounds-out-q-in-loop-s : goal.offset_bounds-out-q-in-loop-s
-offset_bounds-out-q-in-loop-s c = omega (arith, second-inside c.requires.spread.0 c.loop-s.s (omega arith) c.loop-s-test.true, c.loop-s.invariant.4.long)
+offset_bounds-out-q-in-loop-s c = omega (arith, second-inside c.requires.spread.0 c.loop-s.s (omega arith) c.loop-s-test.true, c.loop-s.invariant.3.long)
 
 pub bounds-out-q-in-loop-s : goal.bounds-out-q-in-loop-s
-bounds-out-q-in-loop-s c = simp length-set (omega (arith, second-inside c.requires.spread.0 c.loop-s.s (omega arith) c.loop-s-test.true, c.loop-s.invariant.4.long))
+bounds-out-q-in-loop-s c = simp length-set (omega (arith, second-inside c.requires.spread.0 c.loop-s.s (omega arith) c.loop-s-test.true, c.loop-s.invariant.3.long))
 
 pub overflow_add-p : goal.overflow_add-p
-overflow_add-p c = omega (arith, first-inside c.requires.spread.0 c.loop-s.s (omega arith) c.loop-s-test.true, c.loop-s.invariant.4.long)
+overflow_add-p c = omega (arith, first-inside c.requires.spread.0 c.loop-s.s (omega arith) c.loop-s-test.true, c.loop-s.invariant.3.long)
 
 pub overflow_add-q-in-loop-s : goal.overflow_add-q-in-loop-s
-overflow_add-q-in-loop-s c = omega (arith, second-inside c.requires.spread.0 c.loop-s.s (omega arith) c.loop-s-test.true, c.loop-s.invariant.4.long)
+overflow_add-q-in-loop-s c = omega (arith, second-inside c.requires.spread.0 c.loop-s.s (omega arith) c.loop-s-test.true, c.loop-s.invariant.3.long)
 
 pub loop-s-preserved : goal.loop-s-preserved
 unfolding item_of
 loop-s-preserved c = (
-  omega arith,
-  c.loop-s.invariant.1,
+  c.loop-s.invariant.0,
   omega (arith, next-column c.loop-s.s c.args.across),
   omega arith,
-  two-rows c.requires.spread.0 c.loop-s.invariant.4 c.loop-s-test.true _ _ _ _ c.loop-s.invariant.2 c.loop-s.invariant.3
-      (rw (first_base c.args.base c.args.dim, ← c.wide-first.ensures.value, ← c.wide-past.ensures.value) c.weigh_two-two.ensures.a_value)
-      (rw (second_base c.args.base c.args.dim, ← c.wide-first.ensures.value, ← c.wide-past.ensures.value, ← c.loop-s.invariant.1) c.weigh_two-two.ensures.b_value),
+  two-rows c.requires.spread.0 c.loop-s.invariant.3 c.loop-s-test.true _ _ _ _ c.loop-s.invariant.1 c.loop-s.invariant.2
+      (rw first_base c.weigh_two-two.ensures.a_value)
+      (rw (second_base c.args.base c.args.dim, ← c.loop-s.invariant.0) c.weigh_two-two.ensures.b_value),
 )
-
-pub shape_of-out : goal.shape_of-out
-shape_of-out c = let e = c.loop-s.invariant.4.long in search rules
-
-pub returns : goal.returns
-returns c =
-    let e : c.loop-s.s ≡ c.args.segments = omega arith in
-    rw e at c.loop-s.invariant.4

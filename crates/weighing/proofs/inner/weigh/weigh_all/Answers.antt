@@ -1,61 +1,30 @@
-use Prim.Native.Nat.{◌+◌, ◌≤◌, ◌-◌}
-use mathlib.Core.Path.{◌≡◌}
-use native.Mathlib.Nat.{zero-mul, add-mul, mul-le-mul}
-use native.Mathlib.Omega.{arith}
-use Rattle.weighing.proofs.Cells.{passed_none}
+use Rattle.std.proofs.Common.{◌+◌, ◌≤◌, ◌≡◌, add-mul, mul-le-mul, arith}
 use Rattle.sparse.proofs.Places.{columns-inside}
-use Rattle.weighing.proofs.Rows.{spread_fewer, spread-from, spread-alone, passed-alone, more-columns, weighed-from}
+use Rattle.weighing.proofs.Rows.{spread_fewer, spread-from, passed-alone, more-columns, weighed-from}
 use Rattle.weighing.proofs.inner.weigh.weigh_all.Goals as goal
-
-pub loop-d-init : goal.loop-d-init
-loop-d-init c = (omega arith, omega (arith, zero-mul c.args.dense), omega (arith, zero-mul c.args.dim), passed_none (λ d s b. omega arith))
 
 pub pass_two-requires : goal.pass_two-requires
 pass_two-requires c =
     let v = columns-inside c.loop-d.d 2 c.args.count c.args.dim (omega arith) in
     let b : c.loop-d.d ≤ 65536 = omega arith in
-    let m = mul-le-mul b c.requires.at_bound.1 in record { spread = (rw (c.loop-d.invariant.3.long, c.loop-d.invariant.1) (spread-from c.requires.spread.0 c.loop-d.d 2 (omega arith)), c.requires.spread.1, omega arith, c.requires.at_bound.2); at_bound = (omega arith, c.requires.at_bound.1) }
-
-pub overflow_add-here : goal.overflow_add-here
-overflow_add-here c =
-    let b : c.loop-d.d ≤ 65536 = omega arith in
-    omega (arith, mul-le-mul b c.requires.at_bound.1)
-
-pub overflow_add-here-in-loop-d : goal.overflow_add-here-in-loop-d
-overflow_add-here-in-loop-d c =
-    let b : c.loop-d.d ≤ 65536 = omega arith in
-    omega (arith, mul-le-mul b c.requires.at_bound.1)
-
-pub overflow_add-base : goal.overflow_add-base
-overflow_add-base c =
-    let b : c.loop-d.d ≤ 65536 = omega arith in
-    omega (arith, mul-le-mul b c.requires.at_bound.4)
-
-pub overflow_add-base-in-loop-d : goal.overflow_add-base-in-loop-d
-overflow_add-base-in-loop-d c =
-    let b : c.loop-d.d ≤ 65536 = omega arith in
-    omega (arith, mul-le-mul b c.requires.at_bound.4)
+    let m = mul-le-mul b c.requires.at_bound.1 in
+    record {
+      spread = (rw (c.loop-d.invariant.3.long, c.loop-d.invariant.1) (spread-from c.requires.spread.0 c.loop-d.d 2 (omega arith)), c.requires.spread.1, omega arith, c.requires.at_bound.2);
+      at_bound = (omega arith, c.requires.at_bound.1);
+    }
 
 pub loop-d-preserved : goal.loop-d-preserved
 loop-d-preserved c = (
   omega arith,
   omega (arith, add-mul c.loop-d.d 2 c.args.dense),
   omega (arith, add-mul c.loop-d.d 2 c.args.dim),
-  more-columns c.args.at c.args.dense c.args.across c.loop-d.d (spread_fewer c.requires.spread.0 (c.loop-d.d + 2) (omega arith)) (weighed-from _ _ _ c.loop-d.d _ _ _ c.loop-d.invariant.2) c.loop-d.invariant.3 (rw c.loop-d.invariant.1 at c.pass_two.ensures),
+  more-columns c.args.at c.args.dense c.args.across c.loop-d.d (spread_fewer c.requires.spread.0 (c.loop-d.d + 2) (omega arith))
+      (weighed-from _ _ _ c.loop-d.d _ _ _ c.loop-d.invariant.2) c.loop-d.invariant.3 (rw c.loop-d.invariant.1 at c.pass_two.ensures),
 )
-
-pub pass_one-requires : goal.pass_one-requires
-pass_one-requires c =
-    let v = columns-inside c.loop-d.d 1 c.args.count c.args.dim (omega arith) in
-    (rw (c.loop-d.invariant.3.long, c.loop-d.invariant.1) (spread-alone (spread-from c.requires.spread.0 c.loop-d.d 1 (omega arith))), c.requires.spread.1, omega arith, c.requires.at_bound.2)
 
 pub returns-then-d-count : goal.returns-then-d-count
 returns-then-d-count c =
     let e : c.loop-d.d + 1 ≡ c.args.count = omega arith in
     rw e at
-    (more-columns c.args.at c.args.dense c.args.across c.loop-d.d (spread_fewer c.requires.spread.0 (c.loop-d.d + 1) (omega arith)) (weighed-from _ _ _ c.loop-d.d _ _ _ c.loop-d.invariant.2) c.loop-d.invariant.3 (passed-alone _ c.args.dense _ _ (rw c.loop-d.invariant.1 at c.pass_one.ensures)))
-
-pub returns-else-d-count : goal.returns-else-d-count
-returns-else-d-count c =
-    let e : c.loop-d.d ≡ c.args.count = omega arith in
-    rw e at c.loop-d.invariant.3
+    (more-columns c.args.at c.args.dense c.args.across c.loop-d.d (spread_fewer c.requires.spread.0 (c.loop-d.d + 1) (omega arith))
+    (weighed-from _ _ _ c.loop-d.d _ _ _ c.loop-d.invariant.2) c.loop-d.invariant.3 (passed-alone _ c.args.dense _ _ (rw c.loop-d.invariant.1 at c.pass_one.ensures)))

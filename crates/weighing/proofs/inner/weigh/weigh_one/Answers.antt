@@ -1,33 +1,45 @@
-use Prim.Native.Nat.{◌+◌, ◌-◌}
-use mathlib.Core.Path.{◌≡◌, refl}
-use native.Mathlib.Omega.{arith}
-use lib.ListN.{get_or}
-use lib.Ieee.{nan}
+use Rattle.std.proofs.Common.{ℕ, ◌+◌, get_or, arith, rules}
+use Rattle.std.specs.Float.{nan}
+use Rattle.std.proofs.lemmas.List.{length_push}
 use Rattle.lists.specs.Entries.{cell}
 use Rattle.lists.proofs.Steps.{over_none, over-next}
 use Rattle.sparse.specs.Sparse.{segment}
+use Rattle.sparse.proofs.Pairs.{pair_at, pairs-all}
 use Rattle.weighing.specs.Weighing.{weigh, weighed}
 use Rattle.weighing.proofs.inner.weigh.weigh_one.Goals as goal
 
-pub loop-k-init : goal.loop-k-init
-loop-k-init c = (omega arith, refl, over_none _ _ _)
-
-pub overflow_add-at : goal.overflow_add-at
-overflow_add-at c = let b = c.requires.by_index (c.args.first + c.loop-k.k) (omega arith) in omega arith
-
-pub offset_bounds-x-at : goal.offset_bounds-x-at
-offset_bounds-x-at c = let b = c.requires.by_index (c.args.first + c.loop-k.k) (omega arith) in omega arith
+pub loop-row-init : goal.loop-row-init
+loop-row-init c = over_none _ _ _
 
 pub bounds-x-at : goal.bounds-x-at
-bounds-x-at c = let b = c.requires.by_index (c.args.first + c.loop-k.k) (omega arith) in omega arith
+bounds-x-at c =
+    let a = c.args in
+    let f = c.requires.first_le_past in
+    let xs = c.loop-row.yielded in
+    let t =
+    pair_at a.rows.now a.weights.now a.first a.past f.0 f.1 f.2 xs c.into_iter-row-iterator.result c.loop-row.row-iterator c.next.new.self _
+    (search rules) (search rules) c.loop-row.yielded_by (c.in-Some.row, c.in-Some.weight) c.in-Some.is c.next.ensures.steps in
+    omega (arith, t.row-is, c.requires.by_index _ t.within)
 
-pub loop-k-preserved : goal.loop-k-preserved
+pub loop-row-preserved : goal.loop-row-preserved
 unfolding weigh
-loop-k-preserved c =
-    (omega arith, c.loop-k.invariant.1, over-next (weigh c.args.x.now c.args.base) (λ j. cell (get_or c.args.rows.now (c.args.first + j) 0) (get_or c.args.weights.now (c.args.first + j) nan)) _ _ _ _ c.loop-k.invariant.2 (rw c.wide.ensures.value))
+loop-row-preserved c =
+    let a = c.args in
+    let f = c.requires.first_le_past in
+    let xs = c.loop-row.yielded in
+    let t =
+    pair_at a.rows.now a.weights.now a.first a.past f.0 f.1 f.2 xs c.into_iter-row-iterator.result c.loop-row.row-iterator c.next.new.self _
+    (search rules) (search rules) c.loop-row.yielded_by (c.in-Some.row, c.in-Some.weight) c.in-Some.is c.next.ensures.steps in
+    let cells = λ (j : ℕ). cell (get_or a.rows.now (a.first + j) 0) (get_or a.weights.now (a.first + j) nan) in
+    rw length_push (over-next (weigh a.x.now a.base) cells _ _ _ _ c.loop-row.invariant (rw (t.row-is, t.weight-is)))
 
 pub returns : goal.returns
 unfolding weighed segment
 returns c =
-    let e : c.loop-k.k ≡ c.args.past - c.args.first = omega arith in
-    rw e at c.loop-k.invariant.2
+    let a = c.args in
+    let f = c.requires.first_le_past in
+    let xs = c.loop-row.yielded in
+    let e =
+    pairs-all a.rows.now a.weights.now a.first a.past f.0 f.1 f.2 xs c.into_iter-row-iterator.result c.loop-row.row-iterator c.next.new.self _
+    (search rules) (search rules) c.loop-row.yielded_by c.in-None.is c.next.ensures.steps in
+    rw e at c.loop-row.invariant

@@ -1,5 +1,0 @@
--- `elements::parameter_len` meets its contract. Assumes nothing.
-use Rattle.elements.proofs.parameter_len.Goals as goal
-
-pub returns : goal.returns
-returns c = cc

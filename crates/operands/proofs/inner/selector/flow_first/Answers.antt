@@ -1,8 +1,0 @@
--- `operands::inner::selector::flow_first` meets its contract. Assumes nothing.
-use Rattle.operands.proofs.inner.selector.flow_first.Goals as goal
-
-pub returns-in-Active : goal.returns-in-Active
-returns-in-Active c = rw c.in-Active.is c.active_first.ensures
-
-pub returns-in-Reactive : goal.returns-in-Reactive
-returns-in-Reactive c = rw c.in-Reactive.is c.reactive_first.ensures

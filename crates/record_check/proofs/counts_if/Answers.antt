@@ -1,8 +1,0 @@
--- `record_check::counts_if` meets its contract. Assumes nothing.
-use Rattle.record_check.proofs.counts_if.Goals as goal
-
-pub returns-in-Accepted : goal.returns-in-Accepted
-returns-in-Accepted c = rw c.in-Accepted.is
-
-pub returns-in-Refused : goal.returns-in-Refused
-returns-in-Refused c = rw c.in-Refused.is

@@ -1,6 +1,0 @@
--- `vectors::input::numbers` ends: what is left of the list falls.
-use Rattle.std.proofs.Common.{◌-◌}
-use Rattle.vectors.proofs.input.numbers.Given as goal
-
-abbrev pub decreases-loop-at : goal.decreases-loop-at
-decreases-loop-at g l = l.end - l.at
