@@ -1,7 +1,6 @@
 -- `element_id` of sens/conic.rs.
-use Rattle.std.specs.Prelude.{ℕ, Bool, true, List, ltb, Float, Result}
-use Rattle.refusals.specs.Refusals.{◌or_else◌, refuse_unless, Checked, answer_value}
-use Rattle.refusals.specs.declared.Refusal.{Refusal}
+use Rattle.std.specs.Prelude.{ℕ, Bool, true, List, ltb, Float}
+use Rattle.refusals.specs.Refusals.{◌or_else◌, refuse_unless, Checked}
 use Rattle.refusals.specs.declared.Refusal.TheVariants.{PastEnd}
 use Rattle.records.specs.AcNetwork.{AcNetwork}
 use Rattle.records.specs.Check.{check_of}
@@ -32,6 +31,3 @@ element_value (ElementId.Bus id) = id
 element_value (ElementId.Branch id) = id
 element_value (ElementId.Generator id) = id
 element_value (ElementId.Constraint index) = index
-
-abbrev pub id_value : Result ElementId Refusal → ℕ
-id_value r = answer_value element_value r

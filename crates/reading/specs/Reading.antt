@@ -3,7 +3,7 @@ use Rattle.std.specs.Prelude.{ℕ, zero, suc, ◌+◌, List, [], ◌++◌, ltb, 
 use Rattle.std.specs.Float.{nan}
 use Rattle.std.specs.Float.Ieee.{neg}
 use Rattle.lists.specs.UpTo.{listed}
-use Rattle.refusals.specs.Refusals.{Checked, ◌or_else◌, refuse_unless, room_for, answer_if, answer_value}
+use Rattle.refusals.specs.Refusals.{Checked, ◌or_else◌, refuse_unless, room_for, answer_if}
 use Rattle.refusals.specs.declared.Refusal.{Refusal}
 use Rattle.refusals.specs.declared.Refusal.TheVariants.{PastEnd}
 use Rattle.records.specs.AcNetwork.{AcNetwork}
@@ -98,11 +98,3 @@ module _ (n m k s : ℕ) (b : List ℕ) where
   unfoldable pub code_answer : ℕ → List Float → Float → Scalar
   code_answer code x solver =
       answer_if (part_check x or_else refuse_unless (ltb code 3) (PastEnd code)) (objective_of (network_of n m k s b) (objective_at code) x solver)
-
--- ---- the value and the result of a scalar answer: 0 and the number, or the cause's and 0.0
-abbrev pub scalar_value : Scalar → ℕ
-scalar_value a = answer_value (λ v. 0) a
-
-abbrev pub scalar_result : Scalar → Float
-scalar_result (Ok v) = v
-scalar_result (Err cause) = zero64
