@@ -13,8 +13,7 @@ use Rattle.interface.specs.declared.GB.{GB}
 use Rattle.interface.specs.declared.GB.TheVariants.{Conductance, Susceptance}
 use Rattle.branch.specs.Series.{series_of}
 use Rattle.admittance.specs.Admittance.{in_turn, series_stores}
-use Rattle.admittance.specs.Places.{RowsAre, ColumnsAre, series_entries, landed_all}
-use Rattle.admittance.specs.declared.inner.series.OhmRows.{OhmRows}
+use Rattle.admittance.specs.Places.{OhmRows, RowsAre, ColumnsAre, series_entries, landed_all}
 use Rattle.admittance.specs.declared.inner.series.OhmColumns.{OhmColumns}
 
 module _ (l : SocWrLayout) (b : List ℕ) (h : Laid l b) (x z : List Float) (e : ℕ) {nv : ℕ} {r : OhmRows} {c : OhmColumns}

@@ -16,13 +16,16 @@ use Rattle.admittance.specs.Stores.{Store, plus}
 use Rattle.admittance.specs.Series.{Slope, series}
 use Rattle.admittance.specs.Admittance.{in_turn}
 use Rattle.branch.specs.declared.Series.{Series}
-use Rattle.admittance.specs.declared.inner.series.OhmRows.{OhmRows}
+use Rattle.branch.specs.declared.ByOhmRow.{ByOhmRow}
 use Rattle.admittance.specs.declared.inner.series.OhmColumns.{OhmColumns}
-use Rattle.admittance.specs.declared.inner.series.Entry.{Entry}
+use Rattle.admittance.specs.declared.Entry.{Entry}
 
 -- a row of the program as a row of the KKT matrix
 abbrev pub kkt_in : SocWrLayout → RowName → ℕ
 kkt_in l x = nvar_of l + layout_row l x
+
+abbrev pub OhmRows : Type 0
+OhmRows = ByOhmRow ℕ
 
 -- the numbers of branch e's Ohm rows, and of their columns between two buses
 pub record RowsAre (l : SocWrLayout) (e : ℕ) (r : OhmRows) : Type 0 where

@@ -2,3 +2,7 @@
 #![tactic(auto)]
 
 pub mod inner;
+
+// An entry of d_a: its row, its column and its value.
+#[derive(Clone, Copy)]
+pub struct Entry(pub u32, pub u32, pub f64);

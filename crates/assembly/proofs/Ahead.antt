@@ -1,14 +1,17 @@
 -- Columns written while some starts and some values past theirs are in use. Assumes nothing.
+use Rattle.std.proofs.lemmas.List.{length-map, set_comm}
+use Rattle.std.proofs.lemmas.List.Edits.{sets, sets-eq}
 use Rattle.std.proofs.Common.{ℕ, suc, ◌+◌, ◌-◌, ◌≤◌, ◌<◌, ◌≡◌, refl, sym, ap, ◌∙◌, List, [], ◌∷◌, ◌++◌, map, append_assoc, ⊎_elim, arith, length, set, take, drop, take-append-drop}
 use Rattle.std.proofs.Common.{length-append, length-drop, set-set, Float}
-use lib.ListN.{length-map}
-use lib.Seq.{sets, sets-eq, set_comm}
 use borrow.Rule.Slice.PartMut.{put_mid, Post-is}
 use Rattle.lists.specs.Entries.{Cell, cell_val}
 use Rattle.lists.specs.Compressed.{CellOut, cell_out, WroteCells, write_cells, pos_of, joined}
 use Rattle.lists.proofs.Compressed.{rows_of, vals_of, write_cells-pos, rows_sets, vals_sets, joined-append, then, pos}
 use Rattle.cells.specs.Columns.{ends_from, Columns}
+use Rattle.cells.specs.declared.Cells.{Cells}
+use Rattle.cells.specs.Puts.{cells_of, SameLent, PutsColumns}
 use Rattle.cells.proofs.Fills.{sets_append}
+use Rattle.cells.proofs.Puts.{same-then}
 use Rattle.cells.proofs.Ends.{ends-length, ends-append}
 use Rattle.dealing.proofs.Dealing.{same?}
 use Rattle.assembly.specs.Ahead.{Ahead}
@@ -66,9 +69,16 @@ ahead_then {xs} {ys} {c} {c'} {ss₀ = ss₀} {ss = ss} {o = o} {o' = o'} {o'' =
       ends = record { is = k.ends.is ∙ s₁ ∙ s₂ ∙ ap (sets ss₀ (c + 1)) s₃ };
     }
 
+-- in the same two lists
+pub puts_then : {xs ys : List (List Cell)} {c c' used far : ℕ} {ss₀ ss ss'' : List ℕ} {t t' t'' : Cells}
+    → SameLent t t' → Ahead xs c used far ss₀ (cells_of t) ss (cells_of t') → c' ≡ c + length xs → used ≤ length ys
+    → far ≤ t'.at + length (joined ys) → PutsColumns ys c' ss t' ss'' t'' → PutsColumns (xs ++ ys) c ss₀ t ss'' t''
+puts_then s h e u f k = record { lent = same-then s k.lent; columns = ahead_then h e u f k.columns }
+
 -- ---- a part of the starts that is lent: the ends in front, anything behind; and values that were written far ahead
 
-pub part_ahead : {cs : List (List Cell)} {c n used : ℕ} (es : List ℕ) (xs : List Float) {ss₀ rs₀ rs : List ℕ} {vs₀ vs : List Float} {at next x far : ℕ} → c + 1 + n + used ≤ length ss₀ → length cs ≡ n
+pub part_ahead : {cs : List (List Cell)} {c n used : ℕ} (es : List ℕ) (xs : List Float) {ss₀ rs₀ rs : List ℕ} {vs₀ vs : List Float} {at next x far : ℕ}
+    → c + 1 + n + used ≤ length ss₀ → length cs ≡ n
     → WroteCells (joined cs) (cell_out rs₀ (sets vs₀ x xs) at) (cell_out rs vs next) → at ≤ x → far ≡ x + length xs → take n es ≡ ends_from at cs → length es ≡ n + used
     → Ahead cs c used far ss₀ (cell_out rs₀ vs₀ at) (put_mid (c + 1) (c + 1 + n + used - (c + 1)) ss₀ es) (cell_out rs vs next)
 part_ahead {cs} {c} {n} {used} es xs {ss₀} {at = at} {x = x} h e v b f q m =

@@ -1,5 +1,5 @@
 -- A in the parts in which the code writes it. Assumes nothing.
-use Rattle.std.proofs.Common.{ℕ, ◌+◌, ◌*◌, ◌≤◌, ◌≡◌, sym, ap, ◌∙◌, List, ◌++◌, append_assoc, arith, length, length-append, Float}
+use Rattle.std.proofs.Common.{ℕ, ◌+◌, ◌*◌, ◌≤◌, ◌<◌, ◌≡◌, sym, ap, ◌∙◌, List, ◌++◌, append_assoc, arith, length, length-append, Float}
 use Rattle.lists.specs.UpTo.{each, listed, sum}
 use Rattle.lists.specs.Entries.{Cell}
 use Rattle.lists.specs.Compressed.{joined, starts_from}
@@ -7,7 +7,10 @@ use Rattle.lists.proofs.Sums.{each-length, sum-le, sum-mul, sum_ones}
 use Rattle.lists.proofs.Compressed.{joined-listed, joined-append, starts-length}
 use Rattle.records.specs.AcNetwork.{AcNetwork}
 use Rattle.records.proofs.Sound.{sound}
-use Rattle.numbering.specs.Layout.{nvar_of}
+use Rattle.numbering.specs.Layout.{InRange, layout_column, nvar_of}
+use Rattle.numbering.specs.declared.ColumnName.TheVariants.{Pf, Pt, Qf, Qt}
+use Rattle.numbering.proofs.Numbers.{layout-column}
+use Rattle.rows.specs.Rows.{flow_column}
 use Rattle.numbering.specs.Laid.{net_of, Laid}
 use Rattle.numbering.specs.declared.SocWrLayout.{SocWrLayout}
 use Rattle.numbering.proofs.Laid.{laid-nvar}
@@ -21,6 +24,13 @@ use Rattle.bus_columns.proofs.Counts.{columns_least}
 use Rattle.record_columns.specs.Writers.{cost_turn}
 use Rattle.assembly.specs.Parts.{generator_columns, product_columns, flow_columns, branch_columns}
 use Rattle.lists.proofs.Listed.{listed-length}
+
+-- where the columns of a flow begin
+pub few-flows : {l : SocWrLayout} → InRange l → (q : OhmRow) → layout_column l (flow_column q 0) < 900000
+few-flows {l} r pf = omega (arith, layout-column l (Pf 0), r.n-range, r.m-range, r.k-range)
+few-flows {l} r qf = omega (arith, layout-column l (Qf 0), r.n-range, r.m-range, r.k-range)
+few-flows {l} r pt = omega (arith, layout-column l (Pt 0), r.n-range, r.m-range, r.k-range)
+few-flows {l} r qt = omega (arith, layout-column l (Qt 0), r.n-range, r.m-range, r.k-range)
 
 module _ (l : SocWrLayout) (bytes : List ℕ) where
   abbrev G : AcNetwork Float

@@ -12,15 +12,19 @@ use Rattle.matrix.specs.Columns.{pg_cells, qg_cells, wr_cells, wi_cells, flow_ce
 use Rattle.record_columns.specs.Writers.{cost_turn}
 
 module _ (G : AcNetwork Float) where
+  -- pg and qg
   unfoldable pub generator_columns : List (List Cell)
   generator_columns = listed G.k (pg_cells G) ++ listed G.k (qg_cells G)
 
+  -- wr and wi
   unfoldable pub product_columns : List (List Cell)
   product_columns = listed G.m (wr_cells G) ++ listed G.m (wi_cells G)
 
+  -- pf, pt, qf and qt
   unfoldable pub flow_columns : List (List Cell)
   flow_columns = listed G.m (flow_cells G pf) ++ listed G.m (flow_cells G pt) ++ listed G.m (flow_cells G qf) ++ listed G.m (flow_cells G qt)
 
+  -- those behind the bus columns
   unfoldable pub branch_columns : List (List Cell)
   branch_columns = product_columns ++ flow_columns ++ each G.k (cost_turn G)
 

@@ -1,19 +1,18 @@
-// The right sides by kind, on a network's layout and records.
-ghost use Rattle.std.specs.Prelude.{◌≡◌, ◌+◌, ◌*◌, ◌≤◌, ◌<◌, length};
+// The right sides by kind, of an accepted network.
+ghost use Rattle.std.specs.Prelude.{◌≡◌, ◌<◌, cond};
 ghost use Rattle.std.specs.Float.Ieee.{neg};
 ghost use Rattle.records.specs.Fields.{intercept_of};
-ghost use Rattle.numbering.specs.declared.RowName.TheVariants.{Wub, Wlb, Pgub, Pglb, Qgub, Qglb, Angub, Anglb, Thermal};
-ghost use Rattle.numbering.specs.Laid.{net_of, Laid};
+ghost use Rattle.numbering.specs.declared.RowName.TheVariants.{Thermal};
+ghost use Rattle.numbering.specs.Network.{grid};
+ghost use Rattle.ring.specs.Ops.{rounded};
 ghost use Rattle.rows.specs.Rows.{b};
+ghost use Rattle.bounds.specs.Kinds.{bound_name, bound_count, bound_active};
 ghost use Rattle.bounds.specs.Side.{side_of, Sided};
 
-use crate::Side;
+use crate::{BoundKind, Side};
 use branch::inner::conic_angle_bound_active;
-use numbering::SocWrLayout;
-use records::inner::{
-    generator_capability_active, intercept, pmax, pmin, qmax, qmin, rate_a, vm_max, vm_min,
-    voltage_bound_active,
-};
+use numbering::Network;
+use records::Record;
 
 // The value where a bound is active, else 1.
 fn side(on: bool, v: f64) -> Side
@@ -23,89 +22,63 @@ fn side(on: bool, v: f64) -> Side
     Side { on, rhs }
 }
 
-// The bounds of bus i's squared voltage.
-pub fn upper_voltage(l: SocWrLayout, bytes: &[u8], i: usize) -> Side
-    requires laid { Laid l bytes.now }
-    requires i_lt_n { i < l.n }
-    ensures { Sided (net_of l bytes.now) ((net_of l bytes.now).bounded i) (Wub i) result }
+fn active(net: &Network<'_>, kind: BoundKind, i: usize) -> bool
+    requires { i < bound_count net.now.layout kind }
+    ensures { result ≡ bound_active (grid net.now) kind i }
 {
-    let on = voltage_bound_active(bytes, i);
-    let v = vm_max(bytes, i);
-    side(on, v * v)
+    match kind {
+        BoundKind::Wub | BoundKind::Wlb => net.bus(i).voltage_bound_active(),
+        BoundKind::Pgub | BoundKind::Pglb | BoundKind::Qgub | BoundKind::Qglb => {
+            net.generator(i).generator_capability_active()
+        }
+        BoundKind::Angub | BoundKind::Anglb => conic_angle_bound_active(net.branch(i)),
+    }
 }
 
-pub fn lower_voltage(l: SocWrLayout, bytes: &[u8], i: usize) -> Side
-    requires laid { Laid l bytes.now }
-    requires i_lt_n { i < l.n }
-    ensures { Sided (net_of l bytes.now) ((net_of l bytes.now).bounded i) (Wlb i) result }
+// The right side where the bound is active.
+#[tactic(auto, unfolding(rows::specs::Rows::b))]
+fn limit(net: &Network<'_>, kind: BoundKind, i: usize) -> f64
+    requires { i < bound_count net.now.layout kind }
+    ensures { b (grid net.now) (bound_name kind i) ≡ cond (bound_active (grid net.now) kind i) result rounded.one }
 {
-    let on = voltage_bound_active(bytes, i);
-    let v = vm_min(bytes, i);
-    side(on, -v * v)
+    match kind {
+        BoundKind::Wub => {
+            let v = net.bus(i).vm_max();
+            v * v
+        }
+        BoundKind::Wlb => {
+            let v = net.bus(i).vm_min();
+            -v * v
+        }
+        BoundKind::Pgub => net.generator(i).pmax(),
+        BoundKind::Pglb => -net.generator(i).pmin(),
+        BoundKind::Qgub => net.generator(i).qmax(),
+        BoundKind::Qglb => -net.generator(i).qmin(),
+        BoundKind::Angub | BoundKind::Anglb => 0.0,
+    }
 }
 
-// The bounds of generator g's powers.
-// Kept: the four read another field each and bound another row, so one function would match on both.
-pub fn upper_active(l: SocWrLayout, bytes: &[u8], g: usize) -> Side
-    requires laid { Laid l bytes.now }
-    requires g_lt_k { g < l.k }
-    ensures { Sided (net_of l bytes.now) ((net_of l bytes.now).capable g) (Pgub g) result }
+// Of the row of record i.
+pub fn bound_side(net: &Network<'_>, kind: BoundKind, i: usize) -> Side
+    requires { i < bound_count net.now.layout kind }
+    ensures { Sided (grid net.now) (bound_active (grid net.now) kind i) (bound_name kind i) result }
 {
-    let r = l.n + l.m + g;
-    side(generator_capability_active(bytes, r), pmax(bytes, r))
+    side(active(net, kind, i), limit(net, kind, i))
 }
 
-pub fn lower_active(l: SocWrLayout, bytes: &[u8], g: usize) -> Side
-    requires laid { Laid l bytes.now }
-    requires g_lt_k { g < l.k }
-    ensures { Sided (net_of l bytes.now) ((net_of l bytes.now).capable g) (Pglb g) result }
+// The right side of a segment.
+pub fn segment_side(r: Record<'_>) -> f64
+    ensures { result ≡ neg (intercept_of r.entry.bytes.now r.entry.r) }
 {
-    let r = l.n + l.m + g;
-    side(generator_capability_active(bytes, r), -pmin(bytes, r))
-}
-
-pub fn upper_reactive(l: SocWrLayout, bytes: &[u8], g: usize) -> Side
-    requires laid { Laid l bytes.now }
-    requires g_lt_k { g < l.k }
-    ensures { Sided (net_of l bytes.now) ((net_of l bytes.now).capable g) (Qgub g) result }
-{
-    let r = l.n + l.m + g;
-    side(generator_capability_active(bytes, r), qmax(bytes, r))
-}
-
-pub fn lower_reactive(l: SocWrLayout, bytes: &[u8], g: usize) -> Side
-    requires laid { Laid l bytes.now }
-    requires g_lt_k { g < l.k }
-    ensures { Sided (net_of l bytes.now) ((net_of l bytes.now).capable g) (Qglb g) result }
-{
-    let r = l.n + l.m + g;
-    side(generator_capability_active(bytes, r), -qmin(bytes, r))
-}
-
-// Both bounds of branch e's angle have the same.
-pub fn angle(l: SocWrLayout, bytes: &[u8], e: usize) -> Side
-    requires laid { Laid l bytes.now }
-    requires e_lt_m { e < l.m }
-    ensures sided { Sided (net_of l bytes.now) ((net_of l bytes.now).angled e) (Angub e) result }
-    ensures sided_2 { Sided (net_of l bytes.now) ((net_of l bytes.now).angled e) (Anglb e) result }
-{
-    side(conic_angle_bound_active(bytes, l.n + e), 0.0)
-}
-
-// The right side of the segment at record r.
-pub fn segment_side(bytes: &[u8], r: usize) -> f64
-    requires { 128 * r + 128 ≤ length bytes.now }
-    ensures { result ≡ neg (intercept_of bytes.now r) }
-{
-    -intercept(bytes, r)
+    -r.intercept()
 }
 
 // The right side of the first row of each of branch e's two thermal cones; the rows behind it have 0.
-pub fn rating(l: SocWrLayout, bytes: &[u8], e: usize) -> f64
-    requires laid { Laid l bytes.now }
-    requires e_lt_m { e < l.m }
-    ensures value { result ≡ b (net_of l bytes.now) (Thermal e 0) }
-    ensures value_2 { result ≡ b (net_of l bytes.now) (Thermal e 3) }
+#[tactic(auto, unfolding(rows::specs::Rows::b))]
+pub fn rating(net: &Network<'_>, e: usize) -> f64
+    requires { e < net.now.layout.m }
+    ensures value { result ≡ b (grid net.now) (Thermal e 0) }
+    ensures value_2 { result ≡ b (grid net.now) (Thermal e 3) }
 {
-    rate_a(bytes, l.n + e)
+    net.branch(e).rate_a()
 }

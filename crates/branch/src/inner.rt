@@ -1,36 +1,35 @@
-// Readings of the branch at record r.
-ghost use Rattle.std.specs.Prelude.{◌≡◌, ◌+◌, ◌*◌, ◌≤◌, length};
+// Readings of a branch's record.
+ghost use Rattle.std.specs.Prelude.{◌≡◌};
 ghost use Rattle.records.specs.Fields.{angled_of};
 ghost use Rattle.rows.specs.Branch.{branch_of};
 ghost use Rattle.branch.specs.Series.{series_of};
 
 use crate::Series;
-use records::inner::{angle_bound_active, angmax, angmin, b, cos_shift, g, sin_shift, tap};
+use records::Record;
 
 pub mod ohm;
 pub mod places;
 
-pub fn series(bytes: &[u8], r: usize) -> Series
-    requires { 128 * r + 128 ≤ length bytes.now }
-    ensures { result ≡ series_of (branch_of bytes.now r) }
+#[tactic(auto, unfolding(rows::specs::Branch::gathered, records::specs::Network::branch_data_of))]
+pub fn series(r: Record<'_>) -> Series
+    ensures { result ≡ series_of (branch_of r.entry.bytes.now r.entry.r) }
 {
-    let t = tap(bytes, r);
+    let t = r.tap();
     Series {
-        g: g(bytes, r),
-        b: b(bytes, r),
-        tr: t * cos_shift(bytes, r),
-        ti: t * sin_shift(bytes, r),
+        g: r.g(),
+        b: r.b(),
+        tr: t * r.cos_shift(),
+        ti: t * r.sin_shift(),
         tm2: t * t,
     }
 }
 
 // The flag is set, and the bounds are not as wide as the whole circle.
-pub fn conic_angle_bound_active(bytes: &[u8], r: usize) -> bool
-    requires { 128 * r + 128 ≤ length bytes.now }
-    ensures { result ≡ angled_of bytes.now r }
+#[tactic(auto, unfolding(records::specs::Fields::angled_of))]
+pub fn conic_angle_bound_active(r: Record<'_>) -> bool
+    ensures { result ≡ angled_of r.entry.bytes.now r.entry.r }
 {
-    let flag = angle_bound_active(bytes, r);
-    let low = angmin(bytes, r);
-    let high = angmax(bytes, r);
-    flag & !((low <= -3.141592653589793) & (high >= 3.141592653589793))
+    let low = r.angmin();
+    let high = r.angmax();
+    r.angle_bound_active() & !((low <= -3.141592653589793) & (high >= 3.141592653589793))
 }

@@ -13,11 +13,14 @@ pub struct Series {
     pub tm2: f64,
 }
 
-// Coefficients in the four Ohm rows of a branch.
+// A value for each of the four Ohm rows of a branch.
 #[derive(Clone, Copy)]
-pub struct Products {
-    pub pf: f64,
-    pub qf: f64,
-    pub pt: f64,
-    pub qt: f64,
+pub struct ByOhmRow<T> {
+    pub pf: T,
+    pub qf: T,
+    pub pt: T,
+    pub qt: T,
 }
+
+// Coefficients in the rows.
+pub type Products = ByOhmRow<f64>;

@@ -1,10 +1,9 @@
 -- The column of a bus from the ends at it. Assumes nothing.
-use Rattle.std.proofs.Common.{ℕ, zero, suc, ◌+◌, ◌*◌, ◌/◌, ◌%◌, ◌≤◌, ◌<◌, ◌≡◌, refl, sym, ap, ◌∙◌, Bool, true, false, List, [], ◌∷◌, ◌++◌, append_assoc, append-nil, arith, lt-ltb, eqb}
+use Rattle.std.proofs.Common.{ℕ, zero, suc, ◌+◌, ◌*◌, ◌/◌, ◌%◌, ◌<◌, ◌≡◌, refl, sym, ap, ◌∙◌, Bool, true, false, List, [], ◌∷◌, ◌++◌, append_assoc, append-nil, arith, lt-ltb, eqb}
 use Rattle.std.proofs.Common.{length, get_or, length-append, Float}
 use Rattle.lists.specs.UpTo.{up_to, each, when}
 use Rattle.lists.specs.Entries.{Cell}
 use Rattle.lists.proofs.Each.{each_ext, when-nil}
-use Rattle.lists.proofs.Sums.{each-le}
 use Rattle.records.specs.AcNetwork.{AcNetwork}
 use Rattle.rows.specs.Rows.{end_bus}
 use Rattle.rows.specs.declared.OhmRow.{OhmRow}
@@ -81,10 +80,6 @@ when_again : (b : Bool) (cs : List Cell) → when b (when b cs) ≡ when b cs
 when_again true cs = refl
 when_again false cs = refl
 
-one_or_none : (b : Bool) (x : ℕ) → length (when b (x ∷ [])) ≤ 1
-one_or_none true x = omega arith
-one_or_none false x = omega arith
-
 module _ (G : AcNetwork Float) where
   ohm-even : (r : OhmRow) (e : ℕ) → e < G.m → ohm_end G r (2 * e) ≡ when (eqb 0 (parity_of r)) (ohm_cell G r e)
   unfolding ohm_end
@@ -121,9 +116,8 @@ module _ (G : AcNetwork Float) where
   unfolding blocks_of
   blocks_paired xs = simp append_assoc
 
-  pub blocks_length : (xs : List ℕ) → length (blocks_of G xs) ≡ length (ohms_of G xs pf) + length (ohms_of G xs qf) + length (ohms_of G xs pt) + length (ohms_of G xs qt)
-  unfolding blocks_of
-  blocks_length xs = simp length-append
+  pub pairs_length : (xs : List ℕ) → length (blocks_of G xs) ≡ length (ohms_of G xs pf ++ ohms_of G xs qf) + length (ohms_of G xs pt ++ ohms_of G xs qt)
+  pairs_length xs = ap length (sym (blocks_paired xs)) ∙ length-append (ohms_of G xs pf ++ ohms_of G xs qf) (ohms_of G xs pt ++ ohms_of G xs qt)
 
   -- ---- a bus's column
 
@@ -142,9 +136,3 @@ module _ (G : AcNetwork Float) where
 
     pub column-length : length (w_cells G i) ≡ length (shunt_cells G i) + length (blocks_of G xs) + length (bound_cells G i) + length (cone_cells G xs)
     column-length = sym (ap length column-is) ∙ simp length-append
-
-    pub ends-few : length xs ≤ 2 * G.m
-    unfolding ends_of ends_at
-    ends-few =
-        rw q (each-le G.m 2 (ends_at G i)
-        (λ e. simp length-append (omega (arith, one_or_none (eqb (G.from e) i) (2 * e), one_or_none (eqb (G.to e) i) (2 * e + 1)))))

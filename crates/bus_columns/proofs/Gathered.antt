@@ -1,14 +1,16 @@
 -- Laws of the gathered coefficients. Assumes nothing.
-use Rattle.std.proofs.Common.{ℕ, zero, suc, ◌+◌, ◌*◌, ◌≤◌, ◌<◌, ◌≡◌, refl, sym, ap, ◌∙◌, List, [], ◌∷◌, ◌++◌, map, arith, length, set, get_or, take, drop, length-append, get_or-set_other}
+use Rattle.std.proofs.lemmas.List.Edits.{sets, sets-eq}
+use Rattle.std.specs.Float.{nan}
+use Rattle.std.proofs.Common.{ℕ, zero, suc, ◌+◌, ◌*◌, ◌≤◌, ◌<◌, ◌≡◌, refl, sym, ap, ◌∙◌, List, [], ◌∷◌, ◌++◌, arith, length, length-set, set, get_or}
+use Rattle.std.proofs.Common.{take, drop, length-append, get_or-set_other}
 use Rattle.std.proofs.Common.{get_or-take, get_or-drop, get_or-append-add, length-take-le, Float}
-use lib.ListN.{length-map, get_or-append}
-use lib.Seq.{sets, sets-eq, length-sets}
-use lib.Ieee.{nan}
+use lib.ListN.{get_or-append}
+use lib.Seq.{length-sets}
+use Rattle.std.proofs.lemmas.List.{set-append_left}
 use Rattle.lists.specs.UpTo.{up_to, each}
-use Rattle.lists.specs.Entries.{Cell, cell_val}
-use Rattle.lists.specs.Compressed.{cell_out, WroteCells}
+use Rattle.lists.specs.Entries.{Cell}
+use Rattle.lists.specs.Compressed.{CellOut, cell_out, write_cells, WroteCells}
 use Rattle.lists.proofs.Each.{part-each}
-use Rattle.lists.proofs.Compressed.{vals_of, vals_sets, len-vals, pos}
 use Rattle.ring.specs.Ops.{rounded}
 use Rattle.records.specs.AcNetwork.{AcNetwork}
 use Rattle.rows.specs.Branch.{branch_at}
@@ -77,12 +79,18 @@ module _ (G : AcNetwork Float) where
             rw a q;
       }
 
-  -- cells written in front of them leave them
-  pub still : {cs : List Cell} {rs rs' : List ℕ} {vs vs' : List Float} {at at' x : ℕ} → WroteCells cs (cell_out rs vs at) (cell_out rs' vs' at') → at' ≤ x → Gathered G x vs → Gathered G x vs'
-  still {cs} {rs} {vs = vs} {at = at} {x = x} k h g =
-      let e = ap vals_of k.is ∙ vals_sets cs (cell_out rs vs at) in
-      record {
-        inside = omega (arith, len-vals k, g.inside);
-        at = λ e' r m.
-            rw e (behind (map cell_val cs) vs at (x + 4 * e' + place_of r) nan (omega (arith, length-map cs cell_val, pos k, h)) ∙ g.at e' r m);
-      }
+-- ---- cells written to a list's front part, and so to the list
+
+abbrev behind_it : List Float → CellOut → CellOut
+behind_it ys (cell_out rs vs at) = cell_out rs (vs ++ ys) at
+
+front_written : (cs : List Cell) (rs : List ℕ) (vs ys : List Float) (at : ℕ) → at + length cs ≤ length vs
+    → write_cells cs (cell_out rs (vs ++ ys) at) ≡ behind_it ys (write_cells cs (cell_out rs vs at))
+unfolding write_cells
+front_written [] rs vs ys at h = refl
+front_written (c ∷ cs) rs vs ys at h =
+    rw (set-append_left vs ys at c.val (omega arith)) (front_written cs (set rs at c.row) (set vs at c.val) ys (at + 1) (omega (arith, length-set vs at c.val)))
+
+pub front-wrote : {cs : List Cell} {rs rs' : List ℕ} {vs vs' l : List Float} {at at' : ℕ} (ys : List Float)
+    → WroteCells cs (cell_out rs vs at) (cell_out rs' vs' at') → l ≡ vs ++ ys → at + length cs ≤ length vs → WroteCells cs (cell_out rs l at) (cell_out rs' (vs' ++ ys) at')
+front-wrote {cs} {rs} {vs = vs} {at = at} ys k e h = rw e (record { is = ap (behind_it ys) k.is ∙ sym (front_written cs rs vs ys at h) })

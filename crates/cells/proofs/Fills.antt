@@ -1,7 +1,8 @@
 -- Lists that are written from a position on. Assumes nothing.
+use Rattle.std.proofs.lemmas.List.{length-replicate}
+use Rattle.std.proofs.lemmas.List.Edits.{sets, sets-eq}
 use Rattle.std.proofs.Common.{replicate, take, drop, drop-drop, append_assoc, ◌≤◌, ℕ, suc, ◌+◌, ◌≡◌, refl, sym, ap, ◌∙◌, List, [], ◌∷◌, ◌++◌, add-zero, arith, length, set}
-use lib.Seq.{sets, length-sets, sets-eq}
-use lib.ListN.{length-replicate}
+use lib.Seq.{length-sets}
 use Rattle.lists.proofs.Overlay.{listed-one}
 use Rattle.cells.specs.Filled.{Filled}
 use Rattle.lists.specs.UpTo.{up_to, each, listed}

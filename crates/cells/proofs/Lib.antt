@@ -2,3 +2,4 @@ pub mod Fills
 pub mod Ends
 pub mod Sizes
 pub mod Runs
+pub mod Puts

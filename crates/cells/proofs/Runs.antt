@@ -1,10 +1,11 @@
 -- Runs written over a list. A run that has g's values leaves a place alone or puts g's value there; so where every place below n has g's value or is in
 -- some run, the front becomes g's list, in whatever order the runs are written. Assumes nothing.
+use Rattle.std.proofs.lemmas.List.Edits.{sets, sets-eq}
 use Rattle.std.proofs.Common.{ℕ, zero, suc, ◌+◌, ◌-◌, ◌≤◌, ◌<◌, ◌≡◌, refl, sym, ap, ◌∙◌, ◌⊎◌, inl, inr, ⊎_elim, List, [], ◌∷◌, ◌++◌, arith, length, get_or, take, drop, set, length-append}
 use Rattle.std.proofs.Common.{length-take-le, get_or-append-add, get_or-set_other, ext_get_or, Float}
 use native.Mathlib.Decide.{dec_lt}
 use lib.ListN.{get_or-append}
-use lib.Seq.{sets, sets-eq, length-sets}
+use lib.Seq.{length-sets}
 use Rattle.lists.specs.UpTo.{listed, overlay}
 use Rattle.lists.proofs.Listed.{listed-length, listed_at}
 use Rattle.lists.proofs.Overlay.{Overlaid, overlay-length, past-written}

@@ -1,6 +1,6 @@
 -- Lengths. Assumes nothing.
+use Rattle.std.specs.Float.Ieee.{ne}
 use Rattle.std.proofs.Common.{ℕ, ◌≡◌, refl, Bool, true, false, [], ◌∷◌, length, Float}
-use lib.Ieee.{ne}
 use mir.Val.{bool_byte}
 use Rattle.lists.specs.UpTo.{when, bit}
 use Rattle.rows.specs.Rows.{zero64}

@@ -1,3 +1,5 @@
 pub mod Filled
 pub mod Columns
 pub mod Runs
+pub mod Puts
+pub mod Lent

@@ -1,19 +1,16 @@
 -- Adjoint: a fill and a pass gather more rows, and all of them make the table. Assumes nothing.
-use Prim.Native.Nat.{ℕ, ◌+◌, ◌*◌, ◌-◌, ◌≤◌, ◌<◌}
-use mathlib.Core.Path.{◌≡◌, refl, sym, ap, ◌∙◌}
-use mathlib.Core.List.{List, ◌++◌}
-use native.Mathlib.Nat.{zero-add}
+use Rattle.std.proofs.Common.{ℕ, ◌+◌, ◌*◌, ◌-◌, ◌≤◌, ◌<◌, ◌≡◌, refl, sym, ap, ◌∙◌, List, ◌++◌, zero-add, arith, length, get_or, replicate, Float}
+use Rattle.std.proofs.lemmas.List.{get_or-replicate}
+use Rattle.std.specs.Float.{binary64, nan}
+use Rattle.std.specs.Float.Ieee.{mul}
 use native.Mathlib.Decide.{dec_lt}
-use native.Mathlib.Omega.{arith}
-use lib.ListN.{length, get_or, replicate, get_or-replicate}
-use lib.Ieee.{Float, binary64, nan, mul}
 use Rattle.lists.specs.UpTo.{up_to, each, listed}
 use Rattle.lists.specs.Entries.{Cell}
 use Rattle.lists.proofs.Each.{each-split}
 use Rattle.lists.proofs.Steps.{through-none, through-append}
-use Rattle.sparse.specs.Sparse.{zero64, item_of}
+use Rattle.sparse.specs.Sparse.{zero64, item_of, Segments}
 use Rattle.weighing.specs.Weighing.{weigh, weighed, nonzero_at}
-use Rattle.weighing.specs.Passes.{place, Below, Passed, weighed_at, Segments}
+use Rattle.weighing.specs.Passes.{place, Below, Passed, weighed_at}
 use Rattle.weighing.specs.Gathering.{span, passed_rows, Filling}
 use Rattle.combination.specs.Combination.{nonzeros, adjoint_at, table}
 use Rattle.combination.specs.Summed.{Summed}
@@ -22,7 +19,7 @@ use Rattle.combination.proofs.Tables.{unique, item-inside, adjoint_place, scaled
 
 -- the buffer's segments
 pub segments-filled : {dim columns c r : ℕ} {rhs : List Float} {starts rows : List ℕ} {values : List Float} {segments c' r' : ℕ}
-    → Filling dim columns c r rhs starts rows values segments c' r' → length starts ≡ 9 → length rows ≡ 512 → length values ≡ 512 → Segments dim starts rows values segments
+    → Filling dim columns c r rhs starts rows values segments c' r' → length starts ≡ 9 → length rows ≡ 256 → length values ≡ 256 → Segments dim starts rows values segments
 segments-filled f a b d =
     record {
       few = omega (arith, f.few);
@@ -91,7 +88,8 @@ module _ {items columns dim : ℕ} {rhs y : List Float} where
   summed_empty m e = record { long = refl; at = λ o k i j. rw e (sym (through-none (weigh y (o * 0)) _)) }
 
   -- as far by another count
-  pub summed_same : {past past' : ℕ → ℕ} {m m' : List Float} → Summed items columns dim rhs y past m m' → ((k : ℕ) → k < columns → past k ≡ past' k) → Summed items columns dim rhs y past' m m'
+  pub summed_same : {past past' : ℕ → ℕ} {m m' : List Float} → Summed items columns dim rhs y past m m' → ((k : ℕ) → k < columns → past k ≡ past' k)
+      → Summed items columns dim rhs y past' m m'
   summed_same a e = record { long = a.long; at = λ o k i j. rw (← e k j) (a.at o k i j) }
 
 -- all rows of every column, each cell times the sign

@@ -1,6 +1,6 @@
 -- What lists that fit and an accepted check say. Assumes nothing.
 use Rattle.refusals.specs.Refusals.{passed}
-use Rattle.std.proofs.Common.{ℕ, ◌*◌, ◌≤◌, ◌≡◌, sym, subst, true, ◌&&◌, List, eqb-true, T, eqb, length, Float}
+use Rattle.std.proofs.Common.{ℕ, ◌*◌, ◌≤◌, ◌≡◌, refl, sym, subst, true, false, ◌&&◌, List, eqb-true, T, eqb, length, Float}
 use Rattle.std.proofs.Math.Nat.{mul-le-mul}
 use Rattle.lists.proofs.Tests.{both}
 use Rattle.refusals.proofs.Laws.{or_else_accepted, test-held, has_room}
@@ -42,6 +42,13 @@ module _ (dim columns : ℕ) (starts rows : List ℕ) (weights rhs solution : Li
   combined Forward h = (forwarded h).0
   combined Adjoint h = (adjoined h).0
   combined Auto h = absurd (subst T (sym h) tt)
+
+  -- lists that don't fit
+  pub unfit : (mode : Mode) → bounded dim columns && selector_fits dim starts rows weights ≡ false → false ≡ combination_fits mode dim columns starts rows weights rhs solution
+  unfolding combination_fits
+  unfit Forward h = rw h
+  unfit Adjoint h = rw h
+  unfit Auto h = refl
 
   pub never_auto : {A : Type 0} → combination_fits Auto dim columns starts rows weights rhs solution ≡ true → A
   unfolding combination_fits

@@ -1,14 +1,11 @@
 -- The table of results, and the cells of a pass in it. Assumes nothing.
-use Prim.Native.Nat.{ℕ, zero, suc, ◌+◌, ◌*◌, ◌/◌, ◌%◌, ◌≤◌, ◌<◌}
-use mathlib.Core.Path.{◌≡◌, sym, ap, ◌∙◌}
-use mathlib.Core.Logic.{⊎_elim}
-use mathlib.Core.List.{List, ◌++◌}
-use native.Mathlib.Nat.{mul-le-mul_right, suc-mul, zero-mul, mul-zero, mul-one, not-suc-le-zero, le_of_suc-le-suc, eq-or-lt_of_le, div-add-mod', mod-lt, div-lt_iff_lt-mul}
+use Rattle.std.proofs.Common.{ℕ, zero, suc, ◌+◌, ◌*◌, ◌/◌, ◌%◌, ◌≤◌, ◌<◌, ◌≡◌, sym, ap, ◌∙◌, ⊎_elim, List, ◌++◌, mul-le-mul_right, suc-mul, zero-mul}
+use Rattle.std.proofs.Common.{mul-zero, mul-one, not-suc-le-zero, le_of_suc-le-suc, eq-or-lt_of_le, div-add-mod', mod-lt, div-lt_iff_lt-mul, arith}
+use Rattle.std.proofs.Common.{length, get_or, length-append, get_or-append-add, ext_get_or, Float}
+use Rattle.std.specs.Float.{binary64, nan}
+use Rattle.std.specs.Float.Ieee.{mul}
 use native.Mathlib.Decide.{dec_lt}
-use native.Mathlib.Omega.{arith}
-use lib.ListN.{length, get_or, length-append, get_or-append}
-use lib.Seq.{get_or-append-add, ext_get_or}
-use lib.Ieee.{Float, binary64, nan, mul}
+use lib.ListN.{get_or-append}
 use Rattle.lists.specs.UpTo.{up_to, each, listed}
 use Rattle.lists.proofs.Listed.{listed-length, listed_at}
 use Rattle.weighing.specs.Passes.{place, Spread}
@@ -63,7 +60,12 @@ module _ (f : ℕ → ℕ → Float) where
   table_is items columns m h g =
       ext_get_or nan m (table items columns f) (h ∙ sym (table-length items columns))
       (λ i l.
-      let z : 0 < columns = elim (dec_lt 0 columns) [ yes p ↦ p | no p ↦ absurd (let e : columns ≡ 0 = omega arith in let q : items * columns ≡ 0 = ap (λ (k : ℕ). items * k) e ∙ mul-zero items in omega arith) ] in
+      let z : 0 < columns = elim (dec_lt 0 columns) [
+        | yes p ↦ p
+        | no p ↦
+            let e : columns ≡ 0 = omega arith in
+            absurd (let q : items * columns ≡ 0 = ap (λ (k : ℕ). items * k) e ∙ mul-zero items in omega arith)
+      ] in
       let o : i / columns < items = (div-lt_iff_lt-mul z).1 (omega arith) in
       let d : i / columns * columns + i % columns ≡ i = div-add-mod' i columns in
       ap (λ (k : ℕ). get_or m k nan) (sym d)

@@ -1,3 +1,4 @@
 pub mod Combination
 pub mod Checks
 pub mod Summed
+pub mod Given

@@ -1,16 +1,14 @@
 // Both combinations of `forward_adjoint` from a given solution.
-ghost use Rattle.std.specs.Prelude.{◌≡◌, true, ℕ, ◌+◌, ◌*◌, ◌≤◌, ◌<◌, length, get_or};
+ghost use Rattle.std.specs.Prelude.{◌≡◌, ◌*◌, length, get_or};
 ghost use Rattle.std.specs.Float.{binary64, nan};
 ghost use Rattle.std.specs.Float.Ieee.{mul};
 ghost use Rattle.lists.specs.UpTo.{listed};
-ghost use Rattle.sparse.specs.Sparse.{items_of};
-ghost use Rattle.sparse.specs.Checks.{most_dim, selector_fits};
 ghost use Rattle.combination.specs.Combination.{forward_at, adjoint_at, table};
 ghost use Rattle.combination.specs.Summed.{Summed};
 
-use lists::inner::fill;
-use weighing::inner::gather;
+use sparse::{Dense, Terms};
 use weighing::inner::weigh::weigh_all;
+use weighing::{Buffer, Grid, Spot};
 
 // Each element times the sign.
 fn scale(out: &mut [f64], sign: f64)
@@ -22,66 +20,49 @@ fn scale(out: &mut [f64], sign: f64)
 }
 
 // Item o, column c: the terms of item o by column c of the solution.
-pub(crate) fn forward_into(
-    out: &mut [f64],
-    dim: usize,
-    columns: usize,
-    items: usize,
-    starts: &[u32],
-    rows: &[u32],
-    weights: &[f64],
-    sign: f64,
-    x: &[f64],
-)
-    requires { (selector_fits dim starts.now rows.now weights.now ≡ true) × (items ≡ items_of starts.now) × (columns ≤ 65536) × (length x.now ≡ dim * columns) × (length out.old ≡ items * columns) }
-    ensures { (out.new ≡ table items columns (forward_at dim starts.now rows.now weights.now sign x.now)) × (length out.new ≡ items * columns) }
+pub(crate) fn forward_into(out: &mut [f64], terms: &Terms<'_>, sign: f64, x: &Dense<'_>)
+    requires { (x.now.dim ≡ terms.now.dim) × (length out.old ≡ terms.now.segments * x.now.columns) }
+    ensures { (out.new ≡ table terms.now.segments x.now.columns (forward_at x.now.dim terms.now.selector.starts.now terms.now.selector.rows.now terms.now.selector.weights.now sign x.now.values.now)) × (length out.new ≡ terms.now.segments * x.now.columns) }
 {
-    fill(out, out.len(), 0.0);
-    weigh_all(
-        out, 0, 1, columns, x, dim, columns, starts, items, rows, weights,
-    );
+    out.fill(0.0);
+    let grid = Grid {
+        at: 0,
+        dense: 1,
+        across: x.columns,
+    };
+    weigh_all(out, &grid, x, terms);
     scale(out, sign);
 }
 
 // The nonzero values of each column by each item's column of the solution, added in the order of the rows.
-fn add_columns(out: &mut [f64], dim: usize, columns: usize, items: usize, rhs: &[f64], y: &[f64])
-    requires { (dim ≤ most_dim) × (columns ≤ 65536) × (items ≤ 65536) × (length rhs.now ≡ dim * columns) × (length y.now ≡ dim * items) × (length out.old ≡ items * columns) }
-    ensures { Summed items columns dim rhs.now y.now (λ k. dim) out.old out.new }
+fn add_columns(out: &mut [f64], rhs: &Dense<'_>, y: &Dense<'_>)
+    requires { (y.now.dim ≡ rhs.now.dim) × (length out.old ≡ y.now.columns * rhs.now.columns) }
+    ensures { Summed y.now.columns rhs.now.columns rhs.now.dim rhs.now.values.now y.now.values.now (λ k. rhs.now.dim) out.old out.new }
 {
-    if dim == 0 {
+    if rhs.dim == 0 {
         return;
     }
-    let mut starts = [0u32; 9];
-    let mut rows = [0u32; 512];
-    let mut values = [0.0; 512];
-    let mut c = 0;
-    let mut r = 0;
+    let mut buffer = Buffer::new();
+    let mut spot = Spot { column: 0, row: 0 };
     // Kept: a fill of the buffer tells where the next one begins.
-    while c < columns {
-        let filled = gather::fill(rhs, dim, columns, c, r, &mut starts, &mut rows, &mut values);
-        let segments = filled.segments;
-        weigh_all(
-            out, c, columns, 1, y, dim, items, &starts, segments, &rows, &values,
-        );
-        c = filled.column;
-        r = filled.row;
+    while spot.column < rhs.columns {
+        let next = buffer.fill(rhs, spot);
+        let grid = Grid {
+            at: spot.column,
+            dense: rhs.columns,
+            across: 1,
+        };
+        weigh_all(out, &grid, y, &buffer.terms(rhs.dim));
+        spot = next;
     }
 }
 
 // Item o, column c: the nonzero values of column c of d_k/dp by column o of the solution.
-pub(crate) fn adjoint_into(
-    out: &mut [f64],
-    dim: usize,
-    columns: usize,
-    items: usize,
-    sign: f64,
-    rhs: &[f64],
-    y: &[f64],
-)
-    requires { (dim ≤ most_dim) × (columns ≤ 65536) × (items ≤ 65536) × (length rhs.now ≡ dim * columns) × (length y.now ≡ dim * items) × (length out.old ≡ items * columns) }
-    ensures { (out.new ≡ table items columns (adjoint_at dim sign rhs.now y.now)) × (length out.new ≡ items * columns) }
+pub(crate) fn adjoint_into(out: &mut [f64], sign: f64, rhs: &Dense<'_>, y: &Dense<'_>)
+    requires { (y.now.dim ≡ rhs.now.dim) × (length out.old ≡ y.now.columns * rhs.now.columns) }
+    ensures { (out.new ≡ table y.now.columns rhs.now.columns (adjoint_at rhs.now.dim sign rhs.now.values.now y.now.values.now)) × (length out.new ≡ y.now.columns * rhs.now.columns) }
 {
-    fill(out, out.len(), 0.0);
-    add_columns(out, dim, columns, items, rhs, y);
+    out.fill(0.0);
+    add_columns(out, rhs, y);
     scale(out, sign);
 }

@@ -1,161 +1,93 @@
 // `forward_adjoint` without its solve: the checks, and the direction that the mode names.
-ghost use Rattle.std.specs.Prelude.{◌≡◌, true, ◌*◌, ◌≤◌, length};
+ghost use Rattle.std.specs.Prelude.{◌≡◌, true, ◌*◌, length};
 ghost use Rattle.refusals.specs.Refusals.{answer_if, left_in};
-ghost use Rattle.interface.specs.declared.Mode.TheVariants.{Forward, Adjoint};
 ghost use Rattle.sparse.specs.Sparse.{items_of};
-ghost use Rattle.combination.specs.Combination.{combination};
-ghost use Rattle.combination.specs.Checks.{concrete, combination_fits, combination_check};
+ghost use Rattle.combination.specs.Checks.{concrete};
+ghost use Rattle.combination.specs.Given.{solved_lists_fit, solved_fits, solved_check, solved_combination};
 
+use crate::Solved;
 use crate::combine::{adjoint_into, forward_into};
 use interface::Mode;
 use refusals::{Refusal, refuse_unless, room_for};
-use sparse::inner::{bounded, items_of, selector_fits};
-
-fn forward_fits(
-    dim: usize,
-    columns: usize,
-    starts: &[u32],
-    rows: &[u32],
-    weights: &[f64],
-    rhs: &[f64],
-    solution: &[f64],
-) -> bool
-    ensures { result ≡ combination_fits Forward dim columns starts.now rows.now weights.now rhs.now solution.now }
-{
-    if bounded(dim, columns) {
-        let need = dim * columns;
-        let a = solution.len() == need;
-        return selector_fits(dim, starts, rows, weights) & a;
-    }
-    false
-}
-
-fn adjoint_fits(
-    dim: usize,
-    columns: usize,
-    starts: &[u32],
-    rows: &[u32],
-    weights: &[f64],
-    rhs: &[f64],
-    solution: &[f64],
-) -> bool
-    ensures { result ≡ combination_fits Adjoint dim columns starts.now rows.now weights.now rhs.now solution.now }
-{
-    if bounded(dim, columns) {
-        if selector_fits(dim, starts, rows, weights) {
-            let a = dim * columns;
-            let b = dim * items_of(starts);
-            return (rhs.len() == a) & (solution.len() == b);
-        }
-    }
-    false
-}
-
-#[tactic(auto, unfolding(crate::specs::Checks::combination_fits))]
-fn fits(
-    mode: Mode,
-    dim: usize,
-    columns: usize,
-    starts: &[u32],
-    rows: &[u32],
-    weights: &[f64],
-    rhs: &[f64],
-    solution: &[f64],
-) -> bool
-    ensures { result ≡ combination_fits mode dim columns starts.now rows.now weights.now rhs.now solution.now }
-{
-    match mode {
-        Mode::Forward => forward_fits(dim, columns, starts, rows, weights, rhs, solution),
-        Mode::Adjoint => adjoint_fits(dim, columns, starts, rows, weights, rhs, solution),
-        Mode::Auto => false,
-    }
-}
+use sparse::Dense;
+use sparse::inner::bounded;
 
 fn is_concrete(mode: Mode) -> bool
     ensures { result ≡ concrete mode }
 {
+    !matches!(mode, Mode::Auto)
+}
+
+fn lists_fit(given: &Solved<'_>) -> bool
+    ensures { result ≡ solved_lists_fit given.now }
+{
+    bounded(given.dim, given.columns) && given.selector.fits(given.dim)
+}
+
+fn fits(mode: Mode, given: &Solved<'_>) -> bool
+    ensures { result ≡ solved_fits mode given.now }
+{
+    if !lists_fit(given) {
+        return false;
+    }
+    let size = given.dim * given.columns;
+    let length = given.solution.len();
     match mode {
-        Mode::Forward => true,
-        Mode::Adjoint => true,
+        Mode::Forward => length == size,
+        Mode::Adjoint => {
+            (given.rhs.len() == size) & (length == given.dim * given.selector.items())
+        }
         Mode::Auto => false,
     }
 }
 
-fn check(
-    mode: Mode,
-    dim: usize,
-    columns: usize,
-    starts: &[u32],
-    rows: &[u32],
-    weights: &[f64],
-    rhs: &[f64],
-    solution: &[f64],
-    room: usize,
-) -> Result<(), Refusal>
-    ensures { result ≡ combination_check mode dim columns starts.now rows.now weights.now rhs.now solution.now room }
+fn check(mode: Mode, given: &Solved<'_>, room: usize) -> Result<(), Refusal>
+    ensures { result ≡ solved_check mode given.now room }
 {
     refuse_unless(is_concrete(mode), Refusal::ModeAuto)?;
-    let fits = fits(mode, dim, columns, starts, rows, weights, rhs, solution);
-    refuse_unless(fits, Refusal::BadLists)?;
-    room_for(items_of(starts) * columns, room)
+    refuse_unless(fits(mode, given), Refusal::BadLists)?;
+    room_for(given.selector.items() * given.columns, room)
 }
 
-fn combine_into(
-    out: &mut [f64],
-    mode: Mode,
-    dim: usize,
-    columns: usize,
-    items: usize,
-    starts: &[u32],
-    rows: &[u32],
-    weights: &[f64],
-    sign: f64,
-    rhs: &[f64],
-    solution: &[f64],
-)
-    requires { (combination_fits mode dim columns starts.now rows.now weights.now rhs.now solution.now ≡ true) × (items ≡ items_of starts.now) × (length out.old ≡ items * columns) }
-    ensures { (out.new ≡ combination mode dim columns starts.now rows.now weights.now sign rhs.now solution.now) × (length out.new ≡ items * columns) }
+fn combine_into(out: &mut [f64], mode: Mode, given: &Solved<'_>)
+    requires { (solved_fits mode given.now ≡ true) × (length out.old ≡ items_of given.now.selector.starts.now * given.now.columns) }
+    ensures { (out.new ≡ solved_combination mode given.now) × (length out.new ≡ items_of given.now.selector.starts.now * given.now.columns) }
 {
+    let dim = given.dim;
+    let columns = given.columns;
     match mode {
         Mode::Forward => {
-            forward_into(
-                out, dim, columns, items, starts, rows, weights, sign, solution,
-            );
+            let x = Dense {
+                values: given.solution,
+                dim,
+                columns,
+            };
+            forward_into(out, &given.selector.terms(dim), given.sign, &x);
         }
         Mode::Adjoint => {
-            adjoint_into(out, dim, columns, items, sign, rhs, solution);
+            let rhs = Dense {
+                values: given.rhs,
+                dim,
+                columns,
+            };
+            let y = Dense {
+                values: given.solution,
+                dim,
+                columns: given.selector.items(),
+            };
+            adjoint_into(out, given.sign, &rhs, &y);
         }
         Mode::Auto => {}
     }
 }
 
-// Item o, column c of the result at o * columns + c. Forward, the solution has a column for each column
-// of the result, and the right-hand side is not looked at; adjoint, it has a column for each item.
-// It answers how many elements it wrote.
-pub fn forward_adjoint(
-    mode: Mode,
-    dim: usize,
-    columns: usize,
-    starts: &[u32],
-    rows: &[u32],
-    weights: &[f64],
-    sign: f64,
-    rhs: &[f64],
-    solution: &[f64],
-    out: &mut [f64],
-) -> Result<u64, Refusal>
-    ensures value { result ≡ answer_if (combination_check mode dim columns starts.now rows.now weights.now rhs.now solution.now (length out.old)) (items_of starts.now * columns) }
-    ensures out_after { out.new ≡ left_in (combination_check mode dim columns starts.now rows.now weights.now rhs.now solution.now (length out.old)) (combination mode dim columns starts.now rows.now weights.now sign rhs.now solution.now) out.old }
+// Item o, column c of the result at o * columns + c. It answers how many elements it wrote.
+pub fn forward_adjoint(mode: Mode, given: &Solved<'_>, out: &mut [f64]) -> Result<u64, Refusal>
+    ensures value { result ≡ answer_if (solved_check mode given.now (length out.old)) (items_of given.now.selector.starts.now * given.now.columns) }
+    ensures out_after { out.new ≡ left_in (solved_check mode given.now (length out.old)) (solved_combination mode given.now) out.old }
 {
-    let room = out.len();
-    check(
-        mode, dim, columns, starts, rows, weights, rhs, solution, room,
-    )?;
-    let items = items_of(starts);
-    let need = items * columns;
-    let part = &mut out[..need];
-    combine_into(
-        part, mode, dim, columns, items, starts, rows, weights, sign, rhs, solution,
-    );
+    check(mode, given, out.len())?;
+    let need = given.selector.items() * given.columns;
+    combine_into(&mut out[..need], mode, given);
     Ok(need as u64)
 }

@@ -14,10 +14,9 @@ use Rattle.numbering.specs.declared.RowName.{RowName}
 use Rattle.rows.specs.Rows.{Term, terms, zero64}
 use Rattle.rows.specs.Program.{nonzero, slack, sum_of}
 use Rattle.kkt.specs.Kkt.{arrow, kkt_row, scaled, cone_row}
-use Rattle.lines.specs.Line.{line_at, line_sum, line_slack, Within, Stands, cone_line, ConeStands}
+use Rattle.lines.specs.Line.{line_at, line_sum, line_slack, Within, Stands, cone_line, ConeStands, Cone}
 use Rattle.lines.proofs.Sizes.{nvar-is, small}
 use Rattle.lines.specs.declared.Line.{Line}
-use Rattle.lines.specs.declared.Cone.{Cone}
 use Rattle.complementarity.specs.Writes.{Given, bound_line, line_in, part, duals_of, slacks_of, by_x, by_z, cone_row_of, cone_of, plain_cone, cone_lines, dual, row_entries, cone_in}
 
 -- the sum of entries at x, on top of a

@@ -12,10 +12,9 @@ use Rattle.numbering.specs.declared.RowName.{RowName}
 use Rattle.rows.specs.Rows.{zero64}
 use Rattle.rows.specs.Program.{nonzero, slack}
 use Rattle.kkt.specs.Kkt.{arrow, plain_row, bound_row, cone_block}
-use Rattle.lines.specs.Line.{line_at, line_slack, cone_line}
+use Rattle.lines.specs.Line.{line_at, line_slack, row_at, Cone, cone_line}
 use Rattle.lines.specs.declared.Line.{Line}
-use Rattle.lines.specs.declared.Cone.{Cone}
-use Rattle.complementarity.specs.declared.Quad.{Quad}
+use Rattle.lines.specs.declared.Four.{Four}
 
 -- accepted records with their layout, and an x and a z of their lengths
 pub record Given (l : SocWrLayout) (bytes : List ℕ) (x z : List Float) : Type 0 where
@@ -34,10 +33,10 @@ unfoldable pub line_in : ℕ → List Float → List Float → Bool → Line →
 line_in v x z d l = cond d (bound_line v x z l) (line_at (v + l.row) (λ a. a) l)
 
 -- a cone's floats, one for each row
-abbrev pub part : Quad → ℕ → Float
-part q l = get_or (q.a ∷ q.b ∷ q.c ∷ []) l q.d
+abbrev pub part : Four Float → ℕ → Float
+part q l = row_at q l
 
-abbrev pub duals_of : List Float → Cone → Quad
+abbrev pub duals_of : List Float → Cone → Four Float
 duals_of z c =
     record {
       a = get_or z c.a.row nan;
@@ -46,23 +45,23 @@ duals_of z c =
       d = get_or z c.d.row nan;
     }
 
-abbrev pub slacks_of : List Float → Cone → Quad
+abbrev pub slacks_of : List Float → Cone → Four Float
 slacks_of x c = record { a = line_slack x c.a; b = line_slack x c.b; c = line_slack x c.c; d = line_slack x c.d }
 
 -- its rows' numbers fit
 pub record Held (v : ℕ) (c : Cone) : Type 0 where
   pub held : (l : ℕ) → v + (cone_line c l).row < 2 ^ 32
 
-unfoldable pub by_x : ℕ → Cone → Quad → ℕ → ℕ → List Entry
+unfoldable pub by_x : ℕ → Cone → Four Float → ℕ → ℕ → List Entry
 by_x v c z j l = when (ne (arrow (part z) j l) zero64) (line_at (v + (cone_line c j).row) (mul binary64 (neg (arrow (part z) j l))) (cone_line c l))
 
-unfoldable pub by_z : ℕ → Cone → Quad → ℕ → ℕ → List Entry
+unfoldable pub by_z : ℕ → Cone → Four Float → ℕ → ℕ → List Entry
 by_z v c s j l = nonzero (v + (cone_line c j).row) (v + (cone_line c l).row) (arrow (part s) j l)
 
-unfoldable pub cone_row_of : ℕ → Cone → Quad → Quad → ℕ → ℕ → List Entry
+unfoldable pub cone_row_of : ℕ → Cone → Four Float → Four Float → ℕ → ℕ → List Entry
 cone_row_of v c z s d j = each d (by_x v c z j) ++ each d (by_z v c s j)
 
-unfoldable pub cone_of : ℕ → Cone → Quad → Quad → ℕ → List Entry
+unfoldable pub cone_of : ℕ → Cone → Four Float → Four Float → ℕ → List Entry
 cone_of v c z s d = each d (cone_row_of v c z s d)
 
 abbrev pub plain_at : ℕ → Cone → ℕ → List Entry

@@ -2,15 +2,8 @@
 #![tactic(auto)]
 
 pub mod inner;
+pub mod placed;
 pub mod point;
 
+pub use placed::Placed;
 pub use point::Point;
-
-// A float for each row of a cone.
-#[derive(Clone, Copy)]
-pub struct Quad {
-    pub a: f64,
-    pub b: f64,
-    pub c: f64,
-    pub d: f64,
-}

@@ -1,8 +1,7 @@
 -- Laws of the costs. Assumes nothing.
 use Rattle.std.proofs.Common.{ℕ, ◌+◌, ◌≡◌, refl, sym, ◌∙◌, ap, ap₂, subst, Bool, true, false, cond, ◌||◌, List, T, get_or, Float}
-use Rattle.std.specs.Float.{nan, inf, binary64}
+use Rattle.std.specs.Float.{nan, inf, binary64, fin}
 use Rattle.std.specs.Float.Ieee.{of_bits, neg, add, div, lt, ne, is_nan}
-use lib.Ieee.{fin}
 use lib.Ieee.Compare.{differs_from_itself, nan_differs}
 use Rattle.lists.specs.UpTo.{up_to}
 use Rattle.lists.proofs.UpTo.{up_to-more}

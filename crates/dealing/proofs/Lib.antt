@@ -1,4 +1,5 @@
 pub mod Dealing
+pub mod Deals
 pub mod Counts
 pub mod Blurs
 pub mod Fills

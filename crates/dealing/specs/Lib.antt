@@ -1,3 +1,4 @@
 pub mod Deal
+pub mod Deals
 pub mod Fill
 pub mod Ahead

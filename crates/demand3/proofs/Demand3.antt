@@ -1,8 +1,6 @@
 -- Demand 3 holds of every accepted network. Assumes nothing.
-use Prim.Native.Nat.{ℕ, ◌+◌}
-use mathlib.Core.List.{List}
-use lib.ListN.{get_or}
-use lib.Ieee.{Float, nan}
+use Rattle.std.proofs.Common.{ℕ, ◌+◌, List, get_or, Float}
+use Rattle.std.specs.Float.{nan}
 use Rattle.lists.proofs.Ascending.{every-inside}
 use Rattle.records.specs.AcNetwork.{AcNetwork}
 use Rattle.numbering.specs.Numbering.{nvar, ncon, row_number}

@@ -1,14 +1,7 @@
 -- The places of the second-order cones. Assumes nothing.
-use Prim.Native.Nat.{ℕ, ◌+◌, ◌*◌, ◌-◌, ◌≤◌, ◌<◌}
-use mathlib.Core.Path.{◌≡◌, refl, sym}
-use mathlib.Core.Bool.{Bool, true, false, ◌&&◌, cond}
-use mathlib.Core.Logic.{◌⊎◌, inl, inr, ⊎_elim}
-use mathlib.Core.List.{List, [], ◌∷◌}
-use native.Mathlib.Omega.{arith}
+use Rattle.std.proofs.Common.{ℕ, ◌+◌, ◌*◌, ◌≤◌, ◌<◌, ◌≡◌, refl, sym, Bool, true, false, ◌&&◌, cond, ◌⊎◌, inl, inr, ⊎_elim, List, [], ◌∷◌, arith, eqb, ltb, Float, ne_eqb, eq-eqb}
+use Rattle.std.specs.Float.Ieee.{neg, ne}
 use native.Mathlib.Decide.{ℕ_discrete}
-use lib.Dec.{eqb, ltb}
-use lib.Ieee.{Float, neg, ne}
-use borrow.Author.Tests.{ne_eqb, eq-eqb}
 use Rattle.lists.specs.UpTo.{up_to, each, when, sum, bit}
 use Rattle.lists.specs.Entries.{Entry, entry, times}
 use Rattle.lists.proofs.Sums.{sum_ext, sum_zeros}
@@ -193,7 +186,13 @@ module _ (G : AcNetwork Float) (sound : Sound G) (s z : RowName → Float) (e : 
   one-column =
       let order = columns in
       ⊎_elim
-      (λ p. omega (arith, same-no (column_number G (W (G.to e))) c (λ q. apart (omega arith)), same-no (column_number G (Wr e)) c (λ q. omega arith), same-no (column_number G (Wi e)) c (λ q. omega arith), z_low (omega arith)))
+      (λ p. omega (
+        arith,
+        same-no (column_number G (W (G.to e))) c (λ q. apart (omega arith)),
+        same-no (column_number G (Wr e)) c (λ q. omega arith),
+        same-no (column_number G (Wi e)) c (λ q. omega arith),
+        z_low (omega arith),
+      ))
       (λ p. ⊎_elim
       (λ q. omega (arith, same-no (column_number G (Wr e)) c (λ y. omega arith), same-no (column_number G (Wi e)) c (λ y. omega arith), z_low (omega arith)))
       (λ q. ⊎_elim
@@ -256,7 +255,9 @@ zone_jabr G sound s z r c b w bound e he hw =
             | yes q ↦ omega (
               arith,
               row-once G sound s z e he r c j
-                  (λ t. p.1 (record { branch = e; below = he; row = ⊎_elim (λ y. inl (omega (arith, jabr-at G e 0, jabr-at G e j))) (λ y. inr (omega (arith, jabr-at G e 3, jabr-at G e j))) t.0; col = t.1 })),
+                  (λ t.
+                  let at = ⊎_elim (λ y. inl (omega (arith, jabr-at G e 0, jabr-at G e j))) (λ y. inr (omega (arith, jabr-at G e 3, jabr-at G e j))) t.0 in
+                  p.1 (record { branch = e; below = he; row = at; col = t.1 })),
             )
             | no q ↦ omega (arith, gone G s z 4 (cones G + 4 * e) (Jabr e) (jabr-at G e) r c j (λ y. q (sym y)))
           ])

@@ -1,13 +1,8 @@
 -- The number of KKT entries. Assumes nothing.
-use Prim.Native.Nat.{ℕ, ◌+◌, ◌*◌, ◌≤◌}
-use mathlib.Core.Path.{◌≡◌, refl, ◌∙◌}
-use mathlib.Core.Bool.{Bool, true, false, ◌||◌, cond}
-use mathlib.Core.List.{List, [], ◌∷◌, ◌++◌, map}
-use native.Mathlib.Omega.{arith}
-use native.Mathlib.Nat.{mul-one}
-use lib.Dec.{eqb, ltb}
-use lib.ListN.{length, length-append, length-map}
-use lib.Ieee.{Float, binary64, of_bits, neg, ne, eq, mul}
+use Rattle.std.proofs.Common.{ℕ, ◌+◌, ◌*◌, ◌≤◌, ◌≡◌, refl, ◌∙◌, Bool, true, false, ◌||◌, cond, List, [], ◌∷◌, ◌++◌, map, arith, mul-one, eqb, ltb, length, length-append, Float}
+use Rattle.std.proofs.lemmas.List.{length-map}
+use Rattle.std.specs.Float.{binary64}
+use Rattle.std.specs.Float.Ieee.{of_bits, neg, ne, eq, mul}
 use Rattle.lists.specs.UpTo.{up_to, each, when, sum, bit}
 use Rattle.lists.specs.Entries.{Entry, entry, turned}
 use Rattle.lists.proofs.Sums.{sum_ext, sum-le, sum-add, sum_ones, each-length, each-le, each-times, double}
@@ -15,7 +10,7 @@ use Rattle.ring.specs.Ops.{rounded}
 use Rattle.records.specs.AcNetwork.{AcNetwork}
 use Rattle.numbering.specs.Numbering.{column_number, limits}
 use Rattle.numbering.specs.Layout.{layout_of}
-use Rattle.rows.specs.Rows.{Constant, constant, one, minus_one, minus_half, half, Cell, cell, plain, hits, ends, single, cells, zero64, terms}
+use Rattle.rows.specs.Rows.{Term, Constant, constant, one, minus_one, minus_half, half, Cell, cell, plain, hits, ends, single, cells, zero64, terms}
 use Rattle.rows.specs.Program.{equalities, inequalities, thermal_from, thermal_to, second_order, every_row, nonzero, quadratic}
 use Rattle.kkt.specs.Kkt.{arrow, kkt_row, scaled, plain_row, bound_row, cone_row, cone_block, kkt_of}
 use Rattle.numbering.specs.declared.ColumnName.{ColumnName}
@@ -175,12 +170,16 @@ module _ (G : AcNetwork Float) (s z : RowName → Float) where
         each-length d X,
         each-length d Y,
         sum-le d (λ l. length (X l)) (λ l. pattern j l * length (terms G (x l)))
-            (λ l h. rw (← (length-map (terms G (x l)) (λ t. entry (kkt_row G (x j)) (column_number G t.col) (mul binary64 (neg (arrow (λ i. z (x i)) j l)) t.coef)))) (arrow-le (λ i. z (x i)) j l _)),
+            (λ l h.
+            let at = λ (t : Term). entry (kkt_row G (x j)) (column_number G t.col) (mul binary64 (neg (arrow (λ i. z (x i)) j l)) t.coef) in
+            rw (← (length-map (terms G (x l)) at)) (arrow-le (λ i. z (x i)) j l _)),
         sum-le d (λ l. length (Y l)) (λ l. pattern j l * 1) (λ l h. arrow-le (λ i. s (x i)) j l (entry (kkt_row G (x j)) (kkt_row G (x l)) (arrow (λ i. s (x i)) j l) ∷ [])),
       )
 
   block-le : (d : ℕ) (x : ℕ → RowName) → length (cone_block G s z d x) ≤ sum d (λ j. sum d (λ l. pattern j l * length (terms G (x l))) + sum d (λ l. pattern j l * 1))
-  block-le d x = omega (arith, each-length d (cone_row G s z d x), sum-le d (λ j. length (cone_row G s z d x j)) (λ j. sum d (λ l. pattern j l * length (terms G (x l))) + sum d (λ l. pattern j l * 1)) (λ j h. row-le d x j))
+  block-le d x =
+      let most = λ (j : ℕ). sum d (λ l. pattern j l * length (terms G (x l))) + sum d (λ l. pattern j l * 1) in
+      omega (arith, each-length d (cone_row G s z d x), sum-le d (λ j. length (cone_row G s z d x j)) most (λ j h. row-le d x j))
 
   jabr-le : (e : ℕ) → length (cone_block G s z 4 (Jabr e)) ≤ 26
   unfolding up_to

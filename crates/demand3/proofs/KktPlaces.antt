@@ -1,14 +1,8 @@
 -- The places of the KKT entries. Assumes nothing.
-use Prim.Native.Nat.{ℕ, ◌+◌, ◌*◌, ◌-◌, ◌≤◌, ◌<◌}
-use mathlib.Core.Path.{◌≡◌, refl, ap}
-use mathlib.Core.Bool.{Bool, true, false, cond}
-use mathlib.Core.Logic.{◌⊎◌, inl, inr, ⊎_elim}
-use mathlib.Core.List.{List, [], ◌∷◌, ◌++◌, map}
-use native.Mathlib.Omega.{arith}
+use Rattle.std.proofs.Common.{ℕ, ◌+◌, ◌*◌, ◌≤◌, ◌<◌, ◌≡◌, refl, ap, Bool, true, false, cond, ◌⊎◌, inl, inr, ⊎_elim, List, [], ◌∷◌, ◌++◌, map, arith, ltb, Float, ltb-true, ltb-false}
+use Rattle.std.specs.Float.{binary64}
+use Rattle.std.specs.Float.Ieee.{neg, mul}
 use native.Mathlib.Decide.{ℕ_discrete, dec_lt}
-use lib.Dec.{ltb}
-use lib.Ieee.{Float, binary64, neg, mul}
-use borrow.Author.Tests.{ltb-true, ltb-false}
 use Rattle.lists.specs.UpTo.{each, when, bit}
 use Rattle.lists.specs.Entries.{Entry, entry, turned, times}
 use Rattle.lists.proofs.Sums.{sum_mono, sum-next}
@@ -234,8 +228,10 @@ module _ (G : AcNetwork Float) (sound : Sound G) where
         next zone_inequalities c r 1 (nvar G) (plain_row G) (λ x l. row x)
         next zone_second c r 1 (nvar G) (λ d x. each d (λ l. plain_row G (x l)))
         (λ e he. zone_rows _ 4 _ (λ l. plain_row G (Jabr e l)) (omega arith) (λ l hl. let at = jabr-at G e l in zone_fit _ _ (omega arith) (omega arith) (row (Jabr e l) (up-jabr e l he))))
-        (λ e he q. zone_rows _ 3 _ (λ l. plain_row G (thermal_from e l)) (omega arith) (λ l hl. let at = thermal-at e l in zone_fit _ _ (omega arith) (omega arith) (row (thermal_from e l) (up-thermal e l he))))
-        (λ e he q. zone_rows _ 3 _ (λ l. plain_row G (thermal_to e l)) (omega arith) (λ l hl. let at = thermal-at e (3 + l) in zone_fit _ _ (omega arith) (omega arith) (row (thermal_to e l) (up-thermal e (3 + l) he))))
+        (λ e he q. zone_rows _ 3 _ (λ l. plain_row G (thermal_from e l)) (omega arith)
+        (λ l hl. let at = thermal-at e l in zone_fit _ _ (omega arith) (omega arith) (row (thermal_from e l) (up-thermal e l he))))
+        (λ e he q. zone_rows _ 3 _ (λ l. plain_row G (thermal_to e l)) (omega arith)
+        (λ l hl. let at = thermal-at e (3 + l) in zone_fit _ _ (omega arith) (omega arith) (row (thermal_to e l) (up-thermal e (3 + l) he))))
 
     -- P's entries are on the diagonal, at the pg columns, wherever these stand
     zone_quadratic : Zone r c 1 (nvar G) 0 (nvar G) (quadratic G)

@@ -1,11 +1,6 @@
 -- The series entries are the derivative of A by g, or by b: an Ohm row is linear in each of them, so that what d more adds is a polynomial identity; no
 -- other row has the branch's numbers. Assumes nothing.
-use Prim.Native.Nat.{ℕ}
-use mathlib.Core.Path.{◌≡◌, refl, sym, ap, ◌∙◌}
-use mathlib.Core.Bool.{cond}
-use mathlib.Core.List.{List, [], ◌∷◌}
-use lib.Dec.{eqb}
-use borrow.Author.Tests.{eq-eqb, ne_eqb}
+use Rattle.std.proofs.Common.{ℕ, ◌≡◌, refl, sym, ap, ◌∙◌, cond, List, [], ◌∷◌, eqb, eq-eqb, ne_eqb}
 use Rattle.ring.specs.Laws.{CommutativeRing}
 use Rattle.ring.proofs.Ring.{E, var, formal, ring}
 use Rattle.records.specs.AcNetwork.{BranchData, AcNetwork}

@@ -1,9 +1,6 @@
 -- The shunt entries are the derivative of A by gs, or by bs: they stand in one cell of the bus's balance row, and what d more adds there is a polynomial
 -- identity. Assumes nothing.
-use Prim.Native.Nat.{ℕ}
-use mathlib.Core.Path.{◌≡◌, refl, sym, ap, ◌∙◌}
-use mathlib.Core.List.{List, [], ◌∷◌, ◌++◌}
-use borrow.Author.Tests.{eq-eqb, ne_eqb}
+use Rattle.std.proofs.Common.{ℕ, ◌≡◌, refl, sym, ap, ◌∙◌, List, [], ◌∷◌, ◌++◌, eq-eqb, ne_eqb}
 use Rattle.ring.specs.Laws.{CommutativeRing}
 use Rattle.ring.proofs.Laws.{zero-add}
 use Rattle.ring.proofs.Ring.{E, var, zeroᴱ, oneᴱ, twoᴱ, plus, times, opposite, den, ring}

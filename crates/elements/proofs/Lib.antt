@@ -1,2 +1,3 @@
 pub mod Balance
+pub mod Counted
 pub mod Order

@@ -2,18 +2,20 @@
 #![tactic(auto)]
 
 ghost use Rattle.std.specs.Prelude.{◌≡◌};
+ghost use Rattle.std.specs.Option.{ok_or};
 ghost use Rattle.refusals.specs.Refusals.{◌or_else◌, refuse_unless, answer_if};
 ghost use Rattle.refusals.specs.declared.Refusal.TheVariants.{NotInSocWr};
-ghost use Rattle.records.specs.Check.{check_of};
-ghost use Rattle.records.specs.Network.{network_of};
+ghost use Rattle.records.specs.Case.{case_check, case_network};
 ghost use Rattle.interface.specs.Scales.{served_unit_scale};
 ghost use Rattle.elements.specs.Lengths.{parameter_len, operand_len, parameter_len_check, operand_len_check};
 ghost use Rattle.elements.specs.Ids.{element_id, id_check};
 
 use inner::ids::{id_of, on_axis};
-use inner::lengths::{has_operand, has_parameter, operand_count, parameter_count};
+use inner::lengths::{operand_length, parameter_length};
 use interface::{Axis, Operand, Parameter};
+use numbering::Network;
 use record_check::check_records;
+use records::Case;
 use refusals::{Refusal, refuse_unless};
 
 pub mod inner;
@@ -27,72 +29,40 @@ pub enum ElementId {
     Constraint(u64),
 }
 
-// The length where the records pass and there is one; else 9 after the record check.
-fn length_if(
-    n: usize,
-    m: usize,
-    k: usize,
-    s: usize,
-    bytes: &[u8],
-    has: bool,
-    length: usize,
-) -> Result<u64, Refusal>
-    ensures { result ≡ answer_if (check_of n m k s bytes.now or_else refuse_unless has NotInSocWr) length }
+// Accepted records and a length; None is number 9.
+fn length_if(case: Case<'_>, length: Option<usize>) -> Result<u64, Refusal>
+    ensures { result ≡ case_check case.entry or_else ok_or length NotInSocWr }
 {
-    check_records(n, m, k, s, bytes)?;
-    refuse_unless(has, Refusal::NotInSocWr)?;
+    check_records(case)?;
+    let length = length.ok_or(Refusal::NotInSocWr)?;
     Ok(length as u64)
 }
 
-// `parameter_len`; None is number 9.
-// Kept: beside operand_len, an entry of the C interface each; what they share is length_if.
-pub fn parameter_len(
-    n: usize,
-    m: usize,
-    k: usize,
-    s: usize,
-    bytes: &[u8],
-    parameter: Parameter,
-) -> Result<u64, Refusal>
-    ensures { result ≡ answer_if (parameter_len_check n m k s bytes.now parameter) (parameter_len n m k parameter) }
+// `parameter_len`.
+// Kept: this and operand_len: one function over parameters and operands would begin with a match of two arms, these two bodies.
+pub fn parameter_len(case: Case<'_>, parameter: Parameter) -> Result<u64, Refusal>
+    ensures { result ≡ answer_if (parameter_len_check case.entry.n case.entry.m case.entry.k case.entry.s case.entry.bytes.now parameter) (parameter_len case.entry.n case.entry.m case.entry.k parameter) }
 {
-    let length = parameter_count(n, m, k, parameter);
-    length_if(n, m, k, s, bytes, has_parameter(parameter), length)
+    length_if(case, parameter_length(case.n, case.m, case.k, parameter))
 }
 
-// `operand_len`; None is number 9.
-pub fn operand_len(
-    n: usize,
-    m: usize,
-    k: usize,
-    s: usize,
-    bytes: &[u8],
-    operand: Operand,
-) -> Result<u64, Refusal>
-    ensures { result ≡ answer_if (operand_len_check n m k s bytes.now operand) (operand_len n m k operand) }
+// `operand_len`.
+pub fn operand_len(case: Case<'_>, operand: Operand) -> Result<u64, Refusal>
+    ensures { result ≡ answer_if (operand_len_check case.entry.n case.entry.m case.entry.k case.entry.s case.entry.bytes.now operand) (operand_len case.entry.n case.entry.m case.entry.k operand) }
 {
-    let length = operand_count(n, m, k, operand);
-    length_if(n, m, k, s, bytes, has_operand(operand), length)
+    length_if(case, operand_length(case.n, case.m, case.k, operand))
 }
 
 // The id of an element of an axis. The constraint axis answers every index.
-pub fn element_id(
-    n: usize,
-    m: usize,
-    k: usize,
-    s: usize,
-    bytes: &[u8],
-    axis: Axis,
-    index: usize,
-) -> Result<ElementId, Refusal>
-    ensures { result ≡ answer_if (id_check n m k s bytes.now axis index) (element_id (network_of n m k s bytes.now) axis index) }
+pub fn element_id(case: Case<'_>, axis: Axis, index: usize) -> Result<ElementId, Refusal>
+    ensures { result ≡ answer_if (id_check case.entry.n case.entry.m case.entry.k case.entry.s case.entry.bytes.now axis index) (element_id (case_network case.entry) axis index) }
 {
-    check_records(n, m, k, s, bytes)?;
+    let net = Network::new(case)?;
     refuse_unless(
-        on_axis(n, m, k, axis, index),
+        on_axis(case.n, case.m, case.k, axis, index),
         Refusal::PastEnd(index as u64),
     )?;
-    Ok(id_of(n, m, k, s, bytes, axis, index))
+    Ok(id_of(&net, axis, index))
 }
 
 // `unit_scale`: the factor from per unit to served units.

@@ -2,9 +2,8 @@
 use Rattle.std.proofs.Common.{ℕ, ◌+◌, ◌≤◌, ◌<◌, ◌^◌, ◌≡◌, refl, sym, ap, subst, ◌∙◌, T, true, Ok, Err, IsErrAnd, List, map, length, length-append, arith, zero-add, le-leb, Float}
 use Rattle.std.specs.Result.{is_ok}
 use Rattle.lists.specs.Entries.{Entry, row_of, col_of, val_of}
-use Rattle.lists.specs.Out.{out, Wrote}
 use Rattle.lists.proofs.Sums.{each-length, sum_ones, sum-le}
-use Rattle.lists.proofs.Written.{pos, rows-front, cols-front, vals-front}
+use Rattle.lists.proofs.Written.{rows-front, cols-front, vals-front}
 use Rattle.refusals.specs.Refusals.{Checked, Written, passed, ◌or_else◌}
 use Rattle.refusals.specs.declared.Refusal.{Refusal}
 use Rattle.refusals.proofs.Laws.{or_else_refused, or_else_accepted, accepted-first, held, has_room, left-written, left_alone, answer-held, answer-refused, leaves}
@@ -21,7 +20,9 @@ use Rattle.solution.proofs.Lengths.{both_long}
 use Rattle.rows.specs.Program.{inequalities}
 use Rattle.numbering.specs.declared.RowName.TheVariants.{Wub}
 use Rattle.complementarity.specs.Writes.{Given, row_entries}
-use Rattle.entries.specs.Answer.{room_cause, Answered}
+use Rattle.lists.specs.declared.Triplets.{Triplets}
+use Rattle.dealing.specs.Ahead.{PutsFinished}
+use Rattle.entries.specs.Answer.{room_cause, ListAnswered}
 
 -- a check that is no error passed
 pub passed_if : (c : Checked) → is_ok c ≡ true → c ≡ passed
@@ -62,27 +63,45 @@ room-less {need} {more} rs cs vs d e =
     let p = rooms more rs cs vs e in
     rw (held _ _ (le-leb need (length rs) (omega arith)), held _ _ (le-leb need (length cs) (omega arith)), held _ _ (le-leb need (length vs) (omega arith)), accepted-first, accepted-first)
 
-module _ {rs cs : List ℕ} {vs : List Float} where
-  pub refused : {a : Checked} {es : List Entry} {out : Written} {cause : Refusal} → a ≡ Err cause → IsErrAnd out (λ x. x ≡ cause) → Answered a es rs cs vs rs cs vs out
+module _ {t : Triplets} where
+  pub refused : {a : Checked} {es : List Entry} {out : Written} {cause : Refusal} → a ≡ Err cause → IsErrAnd out (λ x. x ≡ cause) → ListAnswered a es t t out
   refused h e =
-      record { answer = leaves e ∙ sym (answer-refused _ h); rows = sym (left_alone _ rs h); cols = sym (left_alone _ cs h); vals = sym (left_alone _ vs h) }
-
-  pub wrote : {a : Checked} {es : List Entry} {rs' cs' : List ℕ} {vs' : List Float} {at : ℕ} → a ≡ passed
-      → (length es ≤ length rs) × (length es ≤ length cs) × (length es ≤ length vs) → Wrote es (out rs cs vs 0) (out rs' cs' vs' at)
-      → Answered a es rs cs vs rs' cs' vs' (Ok at)
-  wrote {a} {es} h p e =
       record {
-        answer = ap Ok (pos e ∙ zero-add (length es)) ∙ sym (answer-held (length es) h);
-        rows = rows-front e p.0 ∙ sym (left-written (map row_of es) rs h);
-        cols = cols-front e p.1 ∙ sym (left-written (map col_of es) cs h);
-        vals = vals-front e p.2 ∙ sym (left-written (map val_of es) vs h);
+        rows = refl;
+        cols = refl;
+        vals = refl;
+        answered =
+            record {
+              answer = leaves e ∙ sym (answer-refused _ h);
+              rows = sym (left_alone _ t.rows.now h);
+              cols = sym (left_alone _ t.cols.now h);
+              vals = sym (left_alone _ t.vals.now h);
+            };
+      }
+
+  pub wrote : {a : Checked} {es : List Entry} {t' : Triplets} → a ≡ passed → room_cause (length es) t.rows.now t.cols.now t.vals.now ≡ passed
+      → PutsFinished es (record t { at = 0 }) t' → ListAnswered a es t t' (Ok t'.at)
+  wrote {a} {es} h room p =
+      let r = rooms _ _ _ _ room in
+      let f = p.finished in
+      let w = f.wrote (rw zero-add r.0) (rw zero-add r.1) in
+      record {
+        rows = p.rows;
+        cols = p.cols;
+        vals = p.vals;
+        answered =
+            record {
+              answer = ap Ok (f.position ∙ zero-add (length es)) ∙ sym (answer-held (length es) h);
+              rows = rows-front w r.0 ∙ sym (left-written (map row_of es) t.rows.now h);
+              cols = cols-front w r.1 ∙ sym (left-written (map col_of es) t.cols.now h);
+              vals = vals-front w r.2 ∙ sym (left-written (map val_of es) t.vals.now h);
+            };
       }
 
   -- the first of two checks refused, or passed
   pub stopped : {a : Checked} {es : List Entry} {out : Written} {cause : Refusal} (b : Checked) → a ≡ Err cause → IsErrAnd out (λ x. x ≡ cause)
-      → Answered (a or_else b) es rs cs vs rs cs vs out
+      → ListAnswered (a or_else b) es t t out
   stopped b h e = refused (or_else_refused b h) e
 
-  pub went_on : {a b : Checked} {es : List Entry} {rs' cs' : List ℕ} {vs' : List Float} {w : Written} → a ≡ passed
-      → Answered b es rs cs vs rs' cs' vs' w → Answered (a or_else b) es rs cs vs rs' cs' vs' w
+  pub went_on : {a b : Checked} {es : List Entry} {t' : Triplets} {w : Written} → a ≡ passed → ListAnswered b es t t' w → ListAnswered (a or_else b) es t t' w
   went_on {b = b} h p = rw (h, accepted-first b) p

@@ -1,6 +1,7 @@
 -- What `kkt_entries` answers and leaves in the three lists.
 use Rattle.std.specs.Prelude.{ℕ, ◌≡◌, List, map, length, Float}
 use Rattle.lists.specs.Entries.{Entry, row_of, col_of, val_of}
+use Rattle.lists.specs.declared.Triplets.{Triplets}
 use Rattle.refusals.specs.Refusals.{◌or_else◌, room_for, answer_if, left_in, Checked, Written}
 use Rattle.records.specs.Network.{network_of}
 use Rattle.records.specs.Check.{check_of}
@@ -25,3 +26,10 @@ pub record Answered (check : Checked) (es : List Entry) (rs cs : List ℕ) (vs :
   pub rows : rs' ≡ left_in check (map row_of es) rs
   pub cols : cs' ≡ left_in check (map col_of es) cs
   pub vals : vs' ≡ left_in check (map val_of es) vs
+
+-- the same of lists that are lent before and after
+pub record ListAnswered (check : Checked) (es : List Entry) (t t' : Triplets) (w : Written) : Type 0 where
+  pub rows : t'.rows.ghost_name ≡ t.rows.ghost_name
+  pub cols : t'.cols.ghost_name ≡ t.cols.ghost_name
+  pub vals : t'.vals.ghost_name ≡ t.vals.ghost_name
+  pub answered : Answered check es t.rows.now t.cols.now t.vals.now t'.rows.now t'.cols.now t'.vals.now w

@@ -4,7 +4,6 @@ ghost use Rattle.lists.specs.Puts.{Puts};
 ghost use Rattle.lists.specs.Entries.{turned};
 ghost use Rattle.rows.specs.Program.{equalities, inequalities, second_order, every_row};
 ghost use Rattle.kkt.specs.Kkt.{plain_row, kkt};
-ghost use Rattle.dealing.specs.Fill.{Finished};
 ghost use Rattle.dealing.specs.Ahead.{PutsAhead, PutsFinished};
 ghost use Rattle.complementarity.specs.Writes.{row_entries, cone_in};
 ghost use Rattle.entries.specs.Parts.{first_bounds, stationarity};
@@ -97,7 +96,8 @@ fn first_part(list: &mut Triplets<'_>, p: &Point<'_>)
     equality_rows(list, &p.net);
 }
 
-fn put_kkt(list: &mut Triplets<'_>, p: &Point<'_>)
+// The whole list.
+pub(crate) fn put_kkt(list: &mut Triplets<'_>, p: &Point<'_>)
     requires { list.old.at + length (kkt (grid p.now.net) p.now.x.now p.now.z.now) + p.now.net.layout.n < 2 ^ 31 }
     ensures { PutsFinished (kkt (grid p.now.net) p.now.x.now p.now.z.now) list.old list.new }
 {
@@ -106,23 +106,16 @@ fn put_kkt(list: &mut Triplets<'_>, p: &Point<'_>)
     cone_rows(list, p, true);
 }
 
-// The whole list, from the front of the lists on, and how many entries it has.
-pub(crate) fn kkt_list(rows: &mut [u32], cols: &mut [u32], vals: &mut [f64], p: &Point<'_>) -> usize
-    ensures { Finished (kkt (grid p.now.net) p.now.x.now p.now.z.now) rows.old cols.old vals.old 0 rows.new cols.new vals.new result }
-{
-    let mut list = Triplets {
-        rows,
-        cols,
-        vals,
-        at: 0,
-    };
-    put_kkt(&mut list, p);
-    list.at
-}
-
 // How many entries the list has: lists without a place take none of them.
 pub(crate) fn kkt_count(p: &Point<'_>) -> usize
     ensures { result ≡ length (kkt (grid p.now.net) p.now.x.now p.now.z.now) }
 {
-    kkt_list(&mut [], &mut [], &mut [], p)
+    let mut list = Triplets {
+        rows: &mut [],
+        cols: &mut [],
+        vals: &mut [],
+        at: 0,
+    };
+    put_kkt(&mut list, p);
+    list.at
 }

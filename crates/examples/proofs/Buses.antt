@@ -1,12 +1,5 @@
 -- The record check accepts n bus records that are zeros but for their kinds, by a law of any n: nothing is computed. Assumes nothing.
-use Prim.Native.Nat.{ℕ, zero, suc, ◌+◌, ◌*◌, ◌%◌, ◌<◌, ◌≤◌}
-use mathlib.Core.Path.{◌≡◌, refl, ◌∙◌}
-use mathlib.Core.Bool.{true}
-use mathlib.Core.List.{List}
-use native.Mathlib.Omega.{arith}
-use lib.Dec.{eqb}
-use lib.ListN.{length, get_or}
-use borrow.Author.Tests.{ne_eqb, eq-eqb, le-leb}
+use Rattle.std.proofs.Common.{ℕ, zero, suc, ◌+◌, ◌*◌, ◌%◌, ◌<◌, ◌≤◌, ◌≡◌, refl, ◌∙◌, true, List, arith, eqb, length, get_or, ne_eqb, eq-eqb, le-leb}
 use Rattle.lists.specs.UpTo.{up_to, all}
 use Rattle.lists.proofs.UpTo.{up_to-same}
 use Rattle.lists.proofs.Listed.{listed_at, listed-length}

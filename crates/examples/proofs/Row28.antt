@@ -1,32 +1,23 @@
 -- Example F: in Q, KKT row 28 is the first of the branch's four-row cone. In a bus column it has the negated duals of the cone's first and last row
 -- times their terms there, whatever the slacks and the other duals are: all else is in other rows or columns. Assumes nothing.
-use Prim.Native.Nat.{ℕ, zero, suc, ◌+◌, ◌<◌}
-use mathlib.Core.Path.{◌≡◌, refl, sym, ap, ◌∙◌}
-use mathlib.Core.Bool.{Bool, true, false, ◌&&◌}
-use mathlib.Core.List.{List, [], ◌∷◌, ◌++◌, append_assoc, append-nil}
-use native.Mathlib.Omega.{arith}
-use lib.Dec.{eqb}
-use lib.ListN.{get_or}
-use borrow.Author.Tests.{ne_eqb}
-use lib.Ieee.{Float, nan, of_bits, to_bits, neg, mul, div, add, sub, ne, eq, le, lt}
+use Rattle.std.proofs.Common.{ℕ, zero, suc, ◌+◌, ◌<◌, ◌≡◌, refl, sym, ap, ◌∙◌, Bool, true, false, ◌&&◌, List, [], ◌∷◌, ◌++◌, append_assoc, append-nil, arith, eqb, get_or, Float, ne_eqb}
+use Rattle.std.specs.Float.{nan}
+use Rattle.std.specs.Float.Ieee.{neg, ne}
 use Rattle.lists.specs.UpTo.{up_to, each, when, bit}
 use Rattle.lists.specs.Entries.{Entry, entry, sits, times}
-use Rattle.records.specs.Bytes.{le16, le32, le64}
-use Rattle.records.specs.Fields.{flags_of, count_of, first_of, second_of, bits_of, float_of, flag_bit, g_of, b_of, g_fr_of, b_fr_of, g_to_of, b_to_of, tap_of, limited_of, piecewise_of, segments_of, angled_of}
 use Rattle.records.specs.AcNetwork.{AcNetwork}
-use Rattle.records.specs.Network.{branch_data_of, segment_record}
-use Rattle.rows.specs.Branch.{gathered}
-use Rattle.numbering.specs.Blocks.{start, size, before, total, number_of}
-use Rattle.numbering.specs.Numbering.{column_table, row_table, column_blocks, row_blocks, nvar, ncon, column_number, row_number}
+use Rattle.records.specs.Network.{segment_record}
+use Rattle.numbering.specs.Numbering.{nvar, column_number, row_number}
 use Rattle.numbering.specs.declared.ColumnName.TheVariants.{Wr, Wi}
 use Rattle.numbering.specs.declared.RowName.{RowName}
 use Rattle.numbering.specs.declared.RowName.TheVariants.{Jabr, Thermal}
-use Rattle.rows.specs.Rows.{kept, terms, zero64}
+use Rattle.rows.specs.Rows.{terms, zero64}
 use Rattle.rows.specs.Program.{thermal_from, thermal_to, second_order, nonzero, quadratic, slack}
 use Rattle.kkt.specs.Kkt.{kkt_row, scaled, cone_row, cone_block, kkt_of, kkt}
 use Rattle.demand3.proofs.KktCones.{gone}
 use Rattle.examples.specs.Networks.{q}
 use Rattle.examples.specs.Table.{Q, bits_at, bits, z_f, kkt_f}
+use Rattle.examples.proofs.OnLiterals.{numbers_on_literals, rows_on_literals}
 
 -- ---- the values at a place, part by part
 module _ (r c : ℕ) where
@@ -71,15 +62,15 @@ abbrev G : AcNetwork Float
 G = Q q
 
 columns : nvar G ≡ 10
-unfolding q up_to le16 le32 flags_of count_of flag_bit piecewise_of segments_of start size before total number_of column_table row_table column_blocks row_blocks nvar ncon column_number row_number
+unfolding q numbers_on_literals
 columns = refl
 
 jabr : (l : ℕ) → row_number G (Jabr 0 l) ≡ 18 + l
-unfolding q up_to le16 le32 flags_of count_of flag_bit piecewise_of segments_of start size before total number_of column_table row_table column_blocks row_blocks nvar ncon column_number row_number
+unfolding q numbers_on_literals
 jabr l = omega arith
 
 thermal : (l : ℕ) → row_number G (Thermal 0 l) ≡ 22 + l
-unfolding q up_to le16 le32 flags_of count_of flag_bit limited_of piecewise_of segments_of start size before total number_of column_table row_table column_blocks row_blocks nvar ncon column_number row_number
+unfolding q numbers_on_literals
 thermal l = omega arith
 
 -- ---- KKT row 28, at any slacks and duals
@@ -89,8 +80,7 @@ module _ (s z : RowName → Float) (c : ℕ) where
   other d p x num j h = none_named 28 c _ (gone G s z d p x num 28 c j (λ e. h (omega (arith, num j, columns))))
 
   cones-only : bits_at 28 c (kkt_of G s z) ≡ bits_at 28 c (second_order G (cone_block G s z))
-  unfolding q up_to le16 le32 le64 flags_of count_of first_of second_of bits_of flag_bit piecewise_of limited_of segments_of float_of g_of b_of g_fr_of b_fr_of g_to_of b_to_of tap_of angled_of gathered branch_data_of start size before total number_of column_table row_table column_blocks row_blocks nvar ncon column_number row_number
-      kept terms of_bits neg mul div add sub ne eq le lt segment_record quadratic kkt_of bits_at
+  unfolding q numbers_on_literals rows_on_literals segment_record quadratic kkt_of bits_at
   cones-only = refl
 
   one-row : bits_at 28 c (second_order G (cone_block G s z)) ≡ bits_at 28 c (cone_row G s z 4 (Jabr 0) 0)
@@ -108,11 +98,11 @@ module _ (s z : RowName → Float) (c : ℕ) where
   by l = when (ne (z (Jabr 0 l)) zero64) (scaled G (kkt_row G (Jabr 0 0)) (neg (z (Jabr 0 l))) (terms G (Jabr 0 l)))
 
   by-wr : c < 4 → bits_at 28 c (by 1) ≡ []
-  unfolding terms start size before total number_of column_table row_table column_blocks row_blocks nvar ncon column_number row_number
+  unfolding numbers_on_literals terms
   by-wr h = none-when 28 c (ne (z (Jabr 0 1)) zero64) _ (other-column 28 c (kkt_row G (Jabr 0 0)) (column_number G (Wr 0)) _ (λ e. omega arith))
 
   by-wi : c < 4 → bits_at 28 c (by 2) ≡ []
-  unfolding terms start size before total number_of column_table row_table column_blocks row_blocks nvar ncon column_number row_number
+  unfolding numbers_on_literals terms
   by-wi h = none-when 28 c (ne (z (Jabr 0 2)) zero64) _ (other-column 28 c (kkt_row G (Jabr 0 0)) (column_number G (Wi 0)) _ (λ e. omega arith))
 
   abbrev diagonal : ℕ → List Entry
@@ -147,11 +137,11 @@ module _ (x z : List Float) where
   in_F c h = row28 (slack G x) duals c h
 
   found2 : found 2 ≡ 0x3fe0000000000000 ∷ 0x3fe0000000000000 ∷ []
-  unfolding q up_to le16 le32 le64 flags_of count_of first_of second_of bits_of flag_bit piecewise_of segments_of float_of terms of_bits to_bits neg mul ne eq bits_at start size before total number_of column_table row_table column_blocks row_blocks nvar ncon column_number row_number
+  unfolding q numbers_on_literals rows_on_literals bits_at
   found2 = refl
 
   found3 : found 3 ≡ 0x3fe0000000000000 ∷ 0xbfe0000000000000 ∷ []
-  unfolding q up_to le16 le32 le64 flags_of count_of first_of second_of bits_of flag_bit piecewise_of segments_of float_of terms of_bits to_bits neg mul ne eq bits_at start size before total number_of column_table row_table column_blocks row_blocks nvar ncon column_number row_number
+  unfolding q numbers_on_literals rows_on_literals bits_at
   found3 = refl
 
   pub column2 : bits_at 28 2 (kkt_f x z) ≡ 0x3fe0000000000000 ∷ 0x3fe0000000000000 ∷ []

@@ -10,7 +10,7 @@ use Rattle.numbering.specs.Blocks.{size, block_at, before}
 use Rattle.numbering.specs.Numbering.{row_many}
 use Rattle.numbering.specs.Layout.{layout_of, layout_cause, layout_rows}
 use Rattle.numbering.specs.declared.SocWrLayout.{SocWrLayout}
-use Rattle.input.specs.declared.Counts.{Counts}
+use Rattle.records.specs.declared.Case.{Case}
 
 -- how many of the count records from `at` on are of this kind before the first that is not
 unfoldable pub run_of : List ℕ → ℕ → ℕ → ℕ → ℕ
@@ -31,7 +31,7 @@ module _ (b : List ℕ) where
   unfoldable pub rest_of : ℕ
   rest_of = length b / 128 - buses_of - branches_of - generators_of
 
-  pub record CountsOf (r : Counts) : Type 0 where
+  pub record CountsOf (r : Case) : Type 0 where
     pub n : r.n ≡ buses_of
     pub m : r.m ≡ branches_of
     pub k : r.k ≡ generators_of

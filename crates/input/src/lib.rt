@@ -1,50 +1,46 @@
-// The records that program `layout` is handed: their counts, their layout, and its blocks of rows.
+// The records that program `layout` is handed: their case, its layout, and its blocks of rows.
 #![tactic(auto)]
 
-ghost use Rattle.std.specs.Prelude.{◌≡◌, ◌+◌, ◌*◌, ◌≤◌, length};
-ghost use Rattle.refusals.specs.Refusals.{answer_number, answer_value};
+ghost use Rattle.std.specs.Prelude.{◌≡◌, ◌≤◌};
 ghost use Rattle.input.specs.Input.{run_of, CountsOf, input_layout, first_row, row_count};
 
 use numbering::SocWrLayout;
 use numbering::inner::blocks::ROW_BLOCKS;
-use refusals::{Refusal, number_of, refuse_unless, value_of};
+use records::{Case, Kind, Records};
+use refusals::{Refusal, refuse_unless};
 
-#[derive(Clone, Copy)]
-pub struct Counts {
-    pub n: usize,
-    pub m: usize,
-    pub k: usize,
-    pub s: usize,
-}
-
-// Kept: a kind is a number here, as the records' bytes have it.
-// The leading run of a kind among the count records from the first on.
-fn run(b: &[u8], kind: u16, first: usize, count: usize) -> usize
-    requires { 128 * (first + count) ≤ length b.now }
-    ensures value { result ≡ run_of b.now kind first count }
-    ensures upper_bound { result ≤ count }
+// Kept: a kind is the byte's number here, as in `Record::kind` and in the definition `run_of`.
+// How many records of the run are of this kind before the first that is not.
+fn leading(run: Records<'_>, kind: u16) -> usize
+    ensures value { result ≡ run_of run.entry.bytes.now kind run.entry.first run.entry.count }
+    ensures upper_bound { result ≤ run.entry.count }
 {
-    for i in 0..count {
-        if records::inner::kind(b, first + i) != kind {
+    for i in 0..run.count {
+        if run.record(i).kind() != kind {
             return i;
         }
     }
-    count
+    run.count
 }
 
-// The counts of whole records: leading runs of kinds 1, 2, 3, and the rest.
-pub fn counts_in(b: &[u8]) -> Counts
-    ensures { CountsOf b.now result }
+// The case of whole records: leading runs of kinds 1, 2, 3, and the rest.
+pub fn case_in(b: &[u8]) -> Case<'_>
+    ensures counts { CountsOf b.now result }
+    ensures bytes { result.bytes.now ≡ b.now }
 {
     let records = b.len() / 128;
-    let n = run(b, 1, 0, records);
-    let m = run(b, 2, n, records - n);
-    let k = run(b, 3, n + m, records - n - m);
-    Counts {
+    let n = leading(Records::new(b, 0, records), Kind::Bus as u16);
+    let m = leading(Records::new(b, n, records - n), Kind::Branch as u16);
+    let k = leading(
+        Records::new(b, n + m, records - n - m),
+        Kind::Generator as u16,
+    );
+    Case {
         n,
         m,
         k,
         s: records - n - m - k,
+        bytes: b,
     }
 }
 
@@ -53,29 +49,10 @@ pub fn layout_of(b: &[u8]) -> Result<SocWrLayout, Refusal>
     ensures { result ≡ input_layout b.now }
 {
     refuse_unless(b.len() <= 65536, Refusal::InputTooLong)?;
-    let c = counts_in(b);
-    SocWrLayout::new(c.n, c.m, c.k, c.s, b)
+    SocWrLayout::new(case_in(b))
 }
 
-// The number and the returned value of that answer, which the line of a refusal states.
-pub fn layout_number(a: Result<SocWrLayout, Refusal>) -> u64
-    ensures { result ≡ answer_number a }
-{
-    match a {
-        Ok(_) => 0,
-        Err(cause) => number_of(cause),
-    }
-}
-
-pub fn layout_value(a: Result<SocWrLayout, Refusal>) -> u64
-    ensures { result ≡ answer_value (λ l. 0) a }
-{
-    match a {
-        Ok(_) => 0,
-        Err(cause) => value_of(cause),
-    }
-}
-
+// Kept: first_row and row_count take a block's number, which may be past the last one: then they refuse it, and an enum would have no such block.
 // The first row of a block; the one past the last starts where all rows end.
 pub fn first_row(l: SocWrLayout, block: usize) -> Result<u32, Refusal>
     ensures { result ≡ first_row l block }

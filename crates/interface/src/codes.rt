@@ -1,4 +1,5 @@
 // What a caller's code names.
+// Kept: numbers for kinds in the four functions below, and decoding by hand: the C interface hands codes over as numbers.
 ghost use Rattle.std.specs.Prelude.{◌≡◌};
 ghost use Rattle.interface.specs.Codes.{parameter_at, operand_at, axis_at, mode_at};
 
@@ -6,7 +7,6 @@ use crate::{
     Axis, Bound, CostTerm, End, GB, Mode, Operand, Parameter, Power, TapKind, VoltageKind,
 };
 
-// Kept: numbers for kinds, and the conversion by hand: the C interface hands codes over as numbers.
 pub fn parameter_at(code: u64) -> Option<Parameter>
     ensures { result ≡ parameter_at code }
 {

@@ -110,3 +110,12 @@ pub struct Items {
     pub count: u64,
     pub sign: f64,
 }
+
+// The lists of a selector, as a caller lends them to be written.
+#[derive(Drop)]
+pub struct SelectorLists<'a> {
+    pub starts: &'a mut [u32],
+    pub rows: &'a mut [u32],
+    pub weights: &'a mut [f64],
+    pub elements: &'a mut [u32],
+}

@@ -2,3 +2,4 @@ pub mod Answers
 pub mod Combinations
 pub mod Scalars
 pub mod Sens
+pub mod Cases

@@ -1,4 +1,5 @@
 // Interface and combination.
+// Kept: the C interface hands lists over side by side and codes as numbers; each entry makes its struct of them.
 ghost use Rattle.std.specs.Prelude.{◌≡◌, map, ◌*◌, length, Ok};
 ghost use Rattle.lists.specs.Entries.{row_of, col_of, val_of};
 ghost use Rattle.refusals.specs.Refusals.{answer_if, left_in};
@@ -16,8 +17,11 @@ ghost use Rattle.kernel.specs.Scalars.{ScalarAnswer};
 ghost use Rattle.kernel.specs.Combinations.{scale_at, combine_check, combined};
 
 use crate::{Answer, Scalar};
-use interface::{Mode, Operand, Parameter, mode_at, operand_at, parameter_at};
+use combination::Solved;
+use interface::{Mode, Operand, Parameter, SelectorLists, mode_at, operand_at, parameter_at};
 use refusals::Refusal;
+use residual::System;
+use sparse::{Entries, Selector};
 
 // The scale of the operand and the parameter that codes name.
 fn scale_at(
@@ -56,16 +60,13 @@ pub fn socwr_selector_new(
     ensures weights_after { weights.new ≡ left_in (selector_check from_rows.now from_elements.now starts.old rows.old weights.old elements.old) (unit_weights (length from_rows.now)) weights.old }
     ensures elements_after { elements.new ≡ left_in (selector_check from_rows.now from_elements.now starts.old rows.old weights.old elements.old) from_elements.now elements.old }
 {
-    let a = interface::selector_new(
-        from_rows,
-        from_elements,
-        1.0,
+    let mut lists = SelectorLists {
         starts,
         rows,
         weights,
         elements,
-    );
-    Answer::from(a)
+    };
+    Answer::from(interface::selector_new(from_rows, from_elements, 1.0, &mut lists))
 }
 
 pub fn socwr_max_abs(matrix: &[f64]) -> Scalar
@@ -88,18 +89,15 @@ pub fn socwr_residual(
     ensures written_answer { WrittenAnswer (answer_if (residual_check dim columns rows.now cols.now values.now rhs.now answer.now (length out.old)) (dim * columns)) result }
     ensures out_after { out.new ≡ left_in (residual_check dim columns rows.now cols.now values.now rhs.now answer.now (length out.old)) (residual_of dim columns (entries rows.now cols.now values.now) eps rhs.now answer.now) out.old }
 {
-    let w = residual::residual(
-        dim as usize,
-        columns as usize,
-        rows,
-        cols,
-        values,
+    let system = System {
+        dim: dim as usize,
+        columns: columns as usize,
+        entries: Entries { rows, cols, values },
         eps,
         rhs,
         answer,
-        out,
-    );
-    Answer::from(w)
+    };
+    Answer::from(residual::residual(&system, out))
 }
 
 pub fn socwr_transpose(
@@ -116,15 +114,8 @@ pub fn socwr_transpose(
     ensures out_cols_after { out_cols.new ≡ left_in (transpose_check dim rows.now cols.now values.now (length out_rows.old) (length out_cols.old) (length out_values.old)) (map col_of (transposed (entries rows.now cols.now values.now))) out_cols.old }
     ensures out_values_after { out_values.new ≡ left_in (transpose_check dim rows.now cols.now values.now (length out_rows.old) (length out_cols.old) (length out_values.old)) (map val_of (transposed (entries rows.now cols.now values.now))) out_values.old }
 {
-    let w = adjoint::transpose(
-        dim as usize,
-        rows,
-        cols,
-        values,
-        out_rows,
-        out_cols,
-        out_values,
-    );
+    let entries = Entries { rows, cols, values };
+    let w = adjoint::transpose(dim as usize, &entries, out_rows, out_cols, out_values);
     Answer::from(w)
 }
 
@@ -138,31 +129,26 @@ pub fn socwr_selector_matrix(
     ensures written_answer { WrittenAnswer (answer_if (matrix_check dim starts.now rows.now weights.now (length out.old)) (dim * items_of starts.now)) result }
     ensures out_after { out.new ≡ left_in (matrix_check dim starts.now rows.now weights.now (length out.old)) (selector_matrix dim starts.now rows.now weights.now) out.old }
 {
-    let w = adjoint::selector_matrix(dim as usize, starts, rows, weights, out);
-    Answer::from(w)
+    let selector = Selector {
+        starts,
+        rows,
+        weights,
+    };
+    Answer::from(adjoint::selector_matrix(dim as usize, &selector, out))
 }
 
 // The combination by a mode that a code names, or by none.
 fn combine_at(
     named: Option<Mode>,
     code: u64,
-    dim: usize,
-    columns: usize,
-    starts: &[u32],
-    rows: &[u32],
-    weights: &[f64],
-    sign: f64,
-    rhs: &[f64],
-    solution: &[f64],
+    given: &Solved<'_>,
     out: &mut [f64],
 ) -> Result<u64, Refusal>
-    ensures value { result ≡ answer_if (combine_check named code dim columns starts.now rows.now weights.now rhs.now solution.now (length out.old)) (items_of starts.now * columns) }
-    ensures out_after { out.new ≡ left_in (combine_check named code dim columns starts.now rows.now weights.now rhs.now solution.now (length out.old)) (combined named dim columns starts.now rows.now weights.now sign rhs.now solution.now) out.old }
+    ensures value { result ≡ answer_if (combine_check named code given.now.dim given.now.columns given.now.selector.starts.now given.now.selector.rows.now given.now.selector.weights.now given.now.rhs.now given.now.solution.now (length out.old)) (items_of given.now.selector.starts.now * given.now.columns) }
+    ensures out_after { out.new ≡ left_in (combine_check named code given.now.dim given.now.columns given.now.selector.starts.now given.now.selector.rows.now given.now.selector.weights.now given.now.rhs.now given.now.solution.now (length out.old)) (combined named given.now.dim given.now.columns given.now.selector.starts.now given.now.selector.rows.now given.now.selector.weights.now given.now.sign given.now.rhs.now given.now.solution.now) out.old }
 {
     match named {
-        Some(mode) => combination::forward_adjoint(
-            mode, dim, columns, starts, rows, weights, sign, rhs, solution, out,
-        ),
+        Some(mode) => combination::forward_adjoint(mode, given, out),
         None => Err(Refusal::PastEnd(code)),
     }
 }
@@ -182,19 +168,17 @@ pub fn socwr_combine(
     ensures written_answer { WrittenAnswer (answer_if (combine_check (mode_at mode) mode dim columns starts.now rows.now weights.now rhs.now solution.now (length out.old)) (items_of starts.now * columns)) result }
     ensures out_after { out.new ≡ left_in (combine_check (mode_at mode) mode dim columns starts.now rows.now weights.now rhs.now solution.now (length out.old)) (combined (mode_at mode) dim columns starts.now rows.now weights.now sign rhs.now solution.now) out.old }
 {
-    let named = mode_at(mode);
-    let w = combine_at(
-        named,
-        mode,
-        dim as usize,
-        columns as usize,
-        starts,
-        rows,
-        weights,
+    let given = Solved {
+        dim: dim as usize,
+        columns: columns as usize,
+        selector: Selector {
+            starts,
+            rows,
+            weights,
+        },
         sign,
         rhs,
         solution,
-        out,
-    );
-    Answer::from(w)
+    };
+    Answer::from(combine_at(mode_at(mode), mode, &given, out))
 }

@@ -1,4 +1,5 @@
 // The entries of the KKT matrix.
+// Kept: counts and records, and rows, columns and values, side by side: the C interface hands them over so.
 ghost use Rattle.std.specs.Prelude.{◌≡◌, map, length};
 ghost use Rattle.lists.specs.Entries.{row_of, col_of, val_of};
 ghost use Rattle.refusals.specs.Refusals.{answer_if, left_in};
@@ -8,7 +9,8 @@ ghost use Rattle.demand3.specs.Demand3.{Demanded};
 ghost use Rattle.entries.specs.Answer.{kkt_check};
 ghost use Rattle.kernel.specs.Answers.{WrittenAnswer};
 
-use crate::Answer;
+use crate::{Answer, case_of};
+use lists::Triplets;
 
 pub fn socwr_kkt_entries(
     n: u64,
@@ -28,8 +30,12 @@ pub fn socwr_kkt_entries(
     ensures values_after { values.new ≡ left_in (kkt_check n m k s records.now x.now z.now rows.old cols.old values.old) (map val_of (kkt (network_of n m k s records.now) x.now z.now)) values.old }
     ensures demanded { Demanded n m k s records.now x.now z.now }
 {
-    let w = entries::kkt_entries(
-        n as usize, m as usize, k as usize, s as usize, records, x, z, rows, cols, values,
-    );
-    Answer::from(w)
+    let case = case_of(n, m, k, s, records);
+    let mut list = Triplets {
+        rows,
+        cols,
+        vals: values,
+        at: 0,
+    };
+    Answer::from(entries::kkt_entries(case, x, z, &mut list))
 }

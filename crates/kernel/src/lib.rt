@@ -1,10 +1,15 @@
 // The entries for callers in C, one module for each part of the header include/socwr.h. They only pass on what the libraries answer.
+// Kept: structs of a number and a value (Answer, Scalar, Sizes, Name, Selector), no Result: the C interface fixes their fields.
+// Kept: a `From` for each kind of answer here and in sens, one match each: each holds something else, said by its own record in specs.
 #![tactic(auto)]
 
+ghost use Rattle.std.specs.Prelude.{◌≡◌};
+ghost use Rattle.kernel.specs.Cases.{case_of};
 ghost use Rattle.kernel.specs.Answers.{CauseAnswer, CheckedAnswer, WrittenAnswer, LookupAnswer, ElementAnswer};
 ghost use Rattle.kernel.specs.Scalars.{ScalarAnswer};
 
 use elements::ElementId;
+use records::Case;
 use refusals::{Refusal, number_of, value_of};
 
 pub mod combinations;
@@ -29,6 +34,20 @@ pub struct Scalar {
     pub number: u64,
     pub value: u64,
     pub result: f64,
+}
+
+// The case that a caller lends.
+// Kept: counts and records side by side: the C interface hands them over so.
+pub(crate) fn case_of<'a>(n: u64, m: u64, k: u64, s: u64, records: &'a [u8]) -> Case<'a>
+    ensures { result ≡ case_of n m k s records.entry }
+{
+    Case {
+        n: n as usize,
+        m: m as usize,
+        k: k as usize,
+        s: s as usize,
+        bytes: records,
+    }
 }
 
 impl From<Refusal> for Answer {

@@ -1,4 +1,5 @@
 // The program P, q, A, b.
+// Kept: counts and records, and starts, rows and values, side by side: the C interface hands them over so.
 ghost use Rattle.std.specs.Prelude.{◌≡◌, map, length};
 ghost use Rattle.lists.specs.Entries.{cell_row, cell_val};
 ghost use Rattle.lists.specs.Compressed.{joined, starts_from};
@@ -10,7 +11,8 @@ ghost use Rattle.matrix.specs.Lists.{right_side, quadratic_matrix};
 ghost use Rattle.program.specs.Answered.{floats_check, columns_check};
 ghost use Rattle.kernel.specs.Answers.{WrittenAnswer};
 
-use crate::Answer;
+use crate::{Answer, case_of};
+use cells::Compressed;
 
 pub fn socwr_program_p(
     n: u64,
@@ -27,18 +29,21 @@ pub fn socwr_program_p(
     ensures rows_after { rows.new ≡ left_in (columns_check (check_of n m k s records.now) (quadratic_matrix (network_of n m k s records.now)) starts.old rows.old values.old) (map cell_row (joined (quadratic_matrix (network_of n m k s records.now)))) rows.old }
     ensures values_after { values.new ≡ left_in (columns_check (check_of n m k s records.now) (quadratic_matrix (network_of n m k s records.now)) starts.old rows.old values.old) (map cell_val (joined (quadratic_matrix (network_of n m k s records.now)))) values.old }
 {
-    let w = program::program_p(
-        n as usize, m as usize, k as usize, s as usize, records, starts, rows, values,
-    );
-    Answer::from(w)
+    let case = case_of(n, m, k, s, records);
+    let mut lists = Compressed {
+        starts,
+        rows,
+        values,
+    };
+    Answer::from(program::program_p(case, &mut lists))
 }
 
 pub fn socwr_program_q(n: u64, m: u64, k: u64, s: u64, records: &[u8], q: &mut [f64]) -> Answer
     ensures written_answer { WrittenAnswer (answer_if (floats_check (check_of n m k s records.now) (linear (network_of n m k s records.now)) q.old) (length (linear (network_of n m k s records.now)))) result }
     ensures q_after { q.new ≡ left_in (floats_check (check_of n m k s records.now) (linear (network_of n m k s records.now)) q.old) (linear (network_of n m k s records.now)) q.old }
 {
-    let w = program::program_q(n as usize, m as usize, k as usize, s as usize, records, q);
-    Answer::from(w)
+    let case = case_of(n, m, k, s, records);
+    Answer::from(program::program_q(case, q))
 }
 
 pub fn socwr_program_a(
@@ -56,16 +61,19 @@ pub fn socwr_program_a(
     ensures rows_after { rows.new ≡ left_in (columns_check (check_of n m k s records.now) (matrix (network_of n m k s records.now)) starts.old rows.old values.old) (map cell_row (joined (matrix (network_of n m k s records.now)))) rows.old }
     ensures values_after { values.new ≡ left_in (columns_check (check_of n m k s records.now) (matrix (network_of n m k s records.now)) starts.old rows.old values.old) (map cell_val (joined (matrix (network_of n m k s records.now)))) values.old }
 {
-    let w = program::program_a(
-        n as usize, m as usize, k as usize, s as usize, records, starts, rows, values,
-    );
-    Answer::from(w)
+    let case = case_of(n, m, k, s, records);
+    let mut lists = Compressed {
+        starts,
+        rows,
+        values,
+    };
+    Answer::from(program::program_a(case, &mut lists))
 }
 
 pub fn socwr_program_b(n: u64, m: u64, k: u64, s: u64, records: &[u8], b: &mut [f64]) -> Answer
     ensures written_answer { WrittenAnswer (answer_if (floats_check (check_of n m k s records.now) (right_side (network_of n m k s records.now)) b.old) (length (right_side (network_of n m k s records.now)))) result }
     ensures b_after { b.new ≡ left_in (floats_check (check_of n m k s records.now) (right_side (network_of n m k s records.now)) b.old) (right_side (network_of n m k s records.now)) b.old }
 {
-    let w = program::program_b(n as usize, m as usize, k as usize, s as usize, records, b);
-    Answer::from(w)
+    let case = case_of(n, m, k, s, records);
+    Answer::from(program::program_b(case, b))
 }

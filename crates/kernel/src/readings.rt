@@ -1,4 +1,5 @@
 // Reading.
+// Kept: counts and records side by side, and an objective as a number: the C interface hands them over so.
 ghost use Rattle.std.specs.Prelude.{◌≡◌, ◌+◌, length};
 ghost use Rattle.refusals.specs.Refusals.{answer_if, left_in};
 ghost use Rattle.records.specs.Network.{network_of};
@@ -6,7 +7,7 @@ ghost use Rattle.reading.specs.Reading.{reading_check, prices_check, price_list,
 ghost use Rattle.kernel.specs.Answers.{CheckedAnswer, WrittenAnswer};
 ghost use Rattle.kernel.specs.Scalars.{ScalarAnswer};
 
-use crate::{Answer, Scalar};
+use crate::{Answer, Scalar, case_of};
 
 pub fn socwr_reading_check(
     n: u64,
@@ -19,9 +20,8 @@ pub fn socwr_reading_check(
 ) -> Answer
     ensures { CheckedAnswer (reading_check n m k s records.now x.now z.now) result }
 {
-    Answer::from(reading::reading_check(
-        n as usize, m as usize, k as usize, s as usize, records, x, z,
-    ))
+    let case = case_of(n, m, k, s, records);
+    Answer::from(reading::reading_check(case, x, z))
 }
 
 pub fn socwr_prices(
@@ -36,9 +36,8 @@ pub fn socwr_prices(
     ensures written_answer { WrittenAnswer (answer_if (prices_check n m k s records.now z.now (length prices.old)) (n + n)) result }
     ensures prices_after { prices.new ≡ left_in (prices_check n m k s records.now z.now (length prices.old)) (price_list (network_of n m k s records.now) z.now) prices.old }
 {
-    Answer::from(reading::prices(
-        n as usize, m as usize, k as usize, s as usize, records, z, prices,
-    ))
+    let case = case_of(n, m, k, s, records);
+    Answer::from(reading::prices(case, z, prices))
 }
 
 pub fn socwr_objective(
@@ -53,7 +52,6 @@ pub fn socwr_objective(
 ) -> Scalar
     ensures { ScalarAnswer (code_answer n m k s records.now objective x.now solver) result }
 {
-    Scalar::from(reading::objective_of_code(
-        n as usize, m as usize, k as usize, s as usize, records, objective, x, solver,
-    ))
+    let case = case_of(n, m, k, s, records);
+    Scalar::from(reading::objective_of_code(case, objective, x, solver))
 }

@@ -1,4 +1,5 @@
 // Columns by parameter, selectors of operands, lengths and ids.
+// Kept: counts and records, lists side by side, codes as numbers, a number and a value as a struct: the C interface hands them over so.
 ghost use Rattle.std.specs.Prelude.{◌≡◌, length};
 ghost use Rattle.refusals.specs.Refusals.{answer_if, left_in};
 ghost use Rattle.records.specs.Network.{network_of};
@@ -10,9 +11,12 @@ ghost use Rattle.operands.specs.Selector.{operand_check, selector_rows, selector
 ghost use Rattle.kernel.specs.Answers.{AnswerIs, WrittenAnswer, ElementAnswer};
 ghost use Rattle.kernel.specs.Sens.{parameter_named, operand_named, id_at, SelectorAnswer};
 
-use crate::Answer;
+use crate::{Answer, case_of};
 use elements::ElementId;
-use interface::{Axis, Items, Operand, Parameter, VoltageKind, axis_at, operand_at, parameter_at};
+use interface::{
+    Axis, Items, Operand, Parameter, SelectorLists, VoltageKind, axis_at, operand_at, parameter_at,
+};
+use records::Case;
 use refusals::{Refusal, number_of, value_of};
 
 #[repr(C)]
@@ -24,6 +28,7 @@ pub struct Selector {
 }
 
 // A code that names nothing is refused as one that SOCWR lacks.
+// Kept: so in both functions it stands for one of those, no Option: the C entries' clauses say `parameter_named` and `operand_named`.
 fn parameter_named(code: u64) -> Parameter
     ensures { result ≡ parameter_named (parameter_at code) }
 {
@@ -74,16 +79,14 @@ pub fn socwr_parameter_len(n: u64, m: u64, k: u64, s: u64, records: &[u8], param
     ensures { WrittenAnswer (answer_if (parameter_len_check n m k s records.now (parameter_named (parameter_at parameter))) (parameter_len n m k (parameter_named (parameter_at parameter)))) result }
 {
     let p = parameter_named(parameter);
-    Answer::from(elements::parameter_len(
-        n as usize, m as usize, k as usize, s as usize, records, p,
-    ))
+    Answer::from(elements::parameter_len(case_of(n, m, k, s, records), p))
 }
 
 pub fn socwr_operand_len(n: u64, m: u64, k: u64, s: u64, records: &[u8], operand: u64) -> Answer
     ensures { WrittenAnswer (answer_if (operand_len_check n m k s records.now (operand_named (operand_at operand))) (operand_len n m k (operand_named (operand_at operand)))) result }
 {
     let o = operand_named(operand);
-    Answer::from(elements::operand_len(n as usize, m as usize, k as usize, s as usize, records, o))
+    Answer::from(elements::operand_len(case_of(n, m, k, s, records), o))
 }
 
 pub fn socwr_parameter_jacobian(
@@ -102,18 +105,8 @@ pub fn socwr_parameter_jacobian(
     ensures column_after { column.new ≡ left_in (jacobian_check n m k s records.now (parameter_named (parameter_at parameter)) index (length x.now) (length z.now) (length column.old)) (jacobian (network_of n m k s records.now) x.now z.now (parameter_named (parameter_at parameter)) index) column.old }
 {
     let p = parameter_named(parameter);
-    Answer::from(columns::parameter_jacobian(
-        n as usize,
-        m as usize,
-        k as usize,
-        s as usize,
-        records,
-        x,
-        z,
-        p,
-        index as usize,
-        column,
-    ))
+    let case = case_of(n, m, k, s, records);
+    Answer::from(columns::parameter_jacobian(case, x, z, p, index as usize, column))
 }
 
 pub fn socwr_operand_selector(
@@ -135,28 +128,24 @@ pub fn socwr_operand_selector(
     ensures elements_after { elements.new ≡ left_in (operand_check n m k s records.now (operand_named (operand_at operand)) (length starts.old) (length rows.old) (length weights.old) (length elements.old)) (selector_elements (operand_len n m k (operand_named (operand_at operand)))) elements.old }
 {
     let o = operand_named(operand);
-    Selector::from(operands::operand_selector(
-        n as usize, m as usize, k as usize, s as usize, records, o, starts, rows, weights, elements,
-    ))
+    let case = case_of(n, m, k, s, records);
+    let mut lists = SelectorLists {
+        starts,
+        rows,
+        weights,
+        elements,
+    };
+    Selector::from(operands::operand_selector(case, o, &mut lists))
 }
 
 // The id by an axis that the code names, or by none: the record check, then 7 with the code.
-fn id_at(
-    n: usize,
-    m: usize,
-    k: usize,
-    s: usize,
-    records: &[u8],
-    axis: Option<Axis>,
-    code: u64,
-    index: usize,
-) -> Result<ElementId, Refusal>
-    ensures { result ≡ id_at n m k s records.now axis code index }
+fn id_at(case: Case<'_>, axis: Option<Axis>, code: u64, index: usize) -> Result<ElementId, Refusal>
+    ensures { result ≡ id_at case.entry.n case.entry.m case.entry.k case.entry.s case.entry.bytes.now axis code index }
 {
     match axis {
-        Some(axis) => elements::element_id(n, m, k, s, records, axis, index),
+        Some(axis) => elements::element_id(case, axis, index),
         None => {
-            record_check::check_records(n, m, k, s, records)?;
+            record_check::check_records(case)?;
             Err(Refusal::PastEnd(code))
         }
     }
@@ -173,15 +162,6 @@ pub fn socwr_element_id(
 ) -> Answer
     ensures { ElementAnswer (id_at n m k s records.now (axis_at axis) axis index) result }
 {
-    let named = axis_at(axis);
-    Answer::from(id_at(
-        n as usize,
-        m as usize,
-        k as usize,
-        s as usize,
-        records,
-        named,
-        axis,
-        index as usize,
-    ))
+    let case = case_of(n, m, k, s, records);
+    Answer::from(id_at(case, axis_at(axis), axis, index as usize))
 }

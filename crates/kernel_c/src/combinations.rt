@@ -1,4 +1,5 @@
 // Interface and combination.
+// Kept: lists side by side, and codes as numbers: the C interface hands them over so.
 ghost use Rattle.std.specs.Prelude.{◌≡◌, map, ◌*◌, length, Ok};
 ghost use Rattle.lists.specs.Entries.{row_of, col_of, val_of};
 ghost use Rattle.refusals.specs.Refusals.{answer_if, left_in};

@@ -1,4 +1,5 @@
 // The entries of the KKT matrix.
+// Kept: counts and records, and rows, columns and values, side by side: the C interface hands them over so.
 ghost use Rattle.std.specs.Prelude.{◌≡◌, map, length};
 ghost use Rattle.lists.specs.Entries.{row_of, col_of, val_of};
 ghost use Rattle.refusals.specs.Refusals.{answer_if, left_in};

@@ -1,4 +1,5 @@
 // Records and numbering.
+// Kept: counts and records side by side, and blocks as numbers: the C interface hands them over so.
 ghost use Rattle.std.specs.Prelude.{◌≡◌};
 ghost use Rattle.refusals.specs.Refusals.{answer_if, left_in};
 ghost use Rattle.records.specs.Check.{check_of};

@@ -1,4 +1,5 @@
 // The program P, q, A, b.
+// Kept: counts and records, and starts, rows and values, side by side: the C interface hands them over so.
 ghost use Rattle.std.specs.Prelude.{◌≡◌, map, length};
 ghost use Rattle.lists.specs.Entries.{cell_row, cell_val};
 ghost use Rattle.lists.specs.Compressed.{joined, starts_from};

@@ -1,4 +1,5 @@
 // Reading.
+// Kept: counts and records side by side, and an objective as a number: the C interface hands them over so.
 ghost use Rattle.std.specs.Prelude.{◌≡◌, ◌+◌, length};
 ghost use Rattle.refusals.specs.Refusals.{answer_if, left_in};
 ghost use Rattle.records.specs.Network.{network_of};

@@ -1,4 +1,5 @@
 // Columns by parameter, selectors of operands, lengths and ids.
+// Kept: counts and records, and lists, side by side, and codes as numbers: the C interface hands them over so.
 ghost use Rattle.std.specs.Prelude.{◌≡◌, length};
 ghost use Rattle.refusals.specs.Refusals.{answer_if, left_in};
 ghost use Rattle.records.specs.Network.{network_of};

@@ -1,15 +1,11 @@
 // Reads a network's records from standard input, and writes its blocks of rows: block, first row, rows; lastly the total.
 #![tactic(auto)]
 
-ghost use Rattle.std.specs.Prelude.{◌<◌, length, take, IfOk};
-ghost use Rattle.std.specs.Io.{ReadsAtMost};
-ghost use Rattle.std.specs.Io.KnownBytes.{Consumes, IsAtEnd};
-
 use numbering::SocWrLayout;
 use numbering::inner::blocks::ROW_BLOCKS;
-use refusals::Refusal;
+use readers::read_full;
+use refusals::{Refusal, number_of, value_of};
 use std::io;
-use std::io::Read;
 
 // The blocks of rows in their order.
 const BLOCKS: [&str; 17] = [
@@ -17,29 +13,9 @@ const BLOCKS: [&str; 17] = [
     "qglb", "angub", "anglb", "cost", "jabr", "thermal",
 ];
 
-// Reads until `to` is full or the input ends, and returns how many bytes it put at the start of `to`.
-fn read_full<R: Read>(from: &mut R, to: &mut [u8]) -> io::Result<usize>
-    ensures bound { ReadsAtMost result to.new }
-    ensures bytes { IfOk result (λ n. Consumes (R.remaining from.old) (R.remaining from.new) (take n to.new)) }
-    ensures end { IfOk result (λ n. n < length to.new → IsAtEnd (R.remaining from.new)) }
-{
-    let mut done = 0;
-    while done < to.len() {
-        let n = from.read(&mut to[done..])?;
-        if n == 0 {
-            break;
-        }
-        done += n;
-    }
-    Ok(done)
-}
-
-fn refuse(rt: &impl Print, a: Result<SocWrLayout, Refusal>) -> io::Result<()> {
-    println!(rt;
-        "refused {} {}",
-        input::layout_number(a),
-        input::layout_value(a)
-    )
+// Kept: a `Display` would have to stand in crate refusals, which prints nothing, for this one print.
+fn refuse(rt: &impl Print, cause: Refusal) -> io::Result<()> {
+    println!(rt; "refused {} {}", number_of(cause), value_of(cause))
 }
 
 fn found(rt: &impl Print, number: Result<u32, Refusal>) -> io::Result<()> {
@@ -62,11 +38,11 @@ fn rows(rt: &impl Print, l: SocWrLayout) -> io::Result<()> {
 }
 
 fn main(rt: HostRuntime) -> io::Result<()> {
+    // Kept: the buffer is of fixed length, one byte more than is taken, since the project has no heap.
     let mut buffer = [0u8; 65537];
     let n = read_full(&mut rt.stdin(), &mut buffer)?;
-    let a = input::layout_of(&buffer[..n]);
-    match a {
+    match input::layout_of(&buffer[..n]) {
         Ok(l) => rows(&rt, l),
-        Err(_) => refuse(&rt, a),
+        Err(cause) => refuse(&rt, cause),
     }
 }

@@ -21,8 +21,7 @@ use Rattle.rows.specs.Program.{thermal_from, thermal_to}
 use Rattle.rows.proofs.Shape.{written-when, end_terms, jabr-first, jabr-last}
 use Rattle.records.proofs.Sound.{sound}
 use Rattle.records.proofs.Segments.{segments-fit}
-use Rattle.lines.specs.Line.{line_at, Within, Stands, spot, line, single_line, ends_line, cone_line, ConeStands, thermal}
-use Rattle.lines.specs.declared.Cone.{Cone}
+use Rattle.lines.specs.Line.{Cone, line_at, Within, Stands, spot, line, single_line, ends_line, cone_line, ConeStands, thermal}
 use Rattle.lines.specs.declared.Line.{Line}
 
 module _ (l : SocWrLayout) (bytes : List ℕ) (h : Laid l bytes) where

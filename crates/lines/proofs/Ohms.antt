@@ -1,7 +1,7 @@
 -- The Ohm rows stand for the rows of the network. Assumes nothing.
+use Rattle.std.proofs.lemmas.List.{map-append}
 use Rattle.std.proofs.Common.{ℕ, ◌<◌, ◌≡◌, refl, Bool, true, false, List, [], ◌∷◌, ◌++◌, append_assoc, Float}
 use Rattle.std.specs.Float.Ieee.{ne}
-use mathlib.Core.List.{map-append}
 use Rattle.lists.specs.UpTo.{when}
 use Rattle.lists.specs.Entries.{entry}
 use Rattle.ring.specs.Ops.{rounded}

@@ -10,10 +10,13 @@ use Rattle.numbering.specs.Layout.{layout_column}
 use Rattle.numbering.specs.declared.SocWrLayout.{SocWrLayout}
 use Rattle.numbering.specs.declared.ColumnName.TheVariants.{W}
 use Rattle.numbering.specs.declared.RowName.{RowName}
+use Rattle.rows.specs.Program.{thermal_from, thermal_to}
 use Rattle.rows.specs.Rows.{terms, b, zero64, constant64, minus_half, minus_one}
 use Rattle.lines.specs.declared.Spot.{Spot}
 use Rattle.lines.specs.declared.Line.{Line}
-use Rattle.lines.specs.declared.Cone.{Cone}
+use Rattle.lines.specs.declared.Four.{Four}
+use Rattle.interface.specs.declared.End.{End}
+use Rattle.interface.specs.declared.End.TheVariants.{From, To}
 
 -- a term in row r with its coefficient put through f, where it is on
 abbrev pub spot_at : ℕ → (Float → Float) → Spot → List Entry
@@ -65,13 +68,25 @@ ends_line l f t r v =
     (line r zero64 (spot true (layout_column l (W t)) v) (spot true (layout_column l (W f)) (constant64 minus_half)))
 
 -- ---- cones
+-- row l's of four, the last standing past them too
+abbrev pub row_at : {T : Type 0} → Four T → ℕ → T
+row_at q l = get_or (q.a ∷ q.b ∷ q.c ∷ []) l q.d
+
+abbrev pub Cone : Type 0
+Cone = Four Line
+
 abbrev pub cone_line : Cone → ℕ → Line
-cone_line c l = get_or (c.a ∷ c.b ∷ c.c ∷ []) l c.d
+cone_line c l = row_at c l
 
 -- the lines are the d rows x of the network
 pub record ConeStands (G : AcNetwork Float) (d : ℕ) (x : ℕ → RowName) (c : Cone) : Type 0 where
   pub lines : (l : ℕ) → l < d → Stands G (x l) (cone_line c l)
   pub within : (l : ℕ) → Within (nvar G) (ncon G) (cone_line c l)
+
+-- the rows of the thermal cone at an end of a branch
+abbrev pub thermal_rows : End → ℕ → ℕ → RowName
+thermal_rows From e = thermal_from e
+thermal_rows To e = thermal_to e
 
 -- the three rows of a thermal cone
 abbrev pub thermal : ℕ → ℕ → ℕ → Float → ℕ → ℕ → Cone

@@ -1,14 +1,13 @@
-// The rows by kind, of a network's layout and records.
+// The rows by kind, of an accepted network.
 ghost use Rattle.std.specs.Prelude.{◌≡◌};
 ghost use Rattle.lines.specs.Line.{spot as spot_of, line as line_of, single_line as single_of};
 
 use crate::{Line, Spot};
 
-pub mod angles;
-pub mod buses;
+pub mod bounded;
 pub mod cones;
-pub mod generators;
 pub mod ohm;
+pub mod segments;
 
 pub(crate) fn spot(on: bool, col: u32, val: f64) -> Spot
     ensures { result ≡ spot_of on col val }

@@ -21,14 +21,17 @@ pub struct Line {
     pub second: Spot,
 }
 
-// The rows of a second-order cone. One of three rows has its last row twice.
+// A value for each row of a second-order cone. That of three rows has the last twice.
 #[derive(Clone, Copy)]
-pub struct Cone {
-    pub a: Line,
-    pub b: Line,
-    pub c: Line,
-    pub d: Line,
+pub struct Four<T> {
+    pub a: T,
+    pub b: T,
+    pub c: T,
+    pub d: T,
 }
+
+// The rows themselves.
+pub type Cone = Four<Line>;
 
 // An Ohm row: its number, its columns, and the coefficients of w, wr and wi. That of the flow is 1.
 #[derive(Clone, Copy)]

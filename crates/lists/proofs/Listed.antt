@@ -1,11 +1,7 @@
 -- The list f 0, .., f (n - 1). Assumes nothing.
-use Prim.Native.Nat.{ℕ, zero, suc, ◌<◌}
-use mathlib.Core.Path.{◌≡◌, ◌∙◌}
-use mathlib.Core.List.{[], ◌∷◌, map}
-use mathlib.Core.Logic.{⊎_elim}
-use native.Mathlib.Nat.{not-suc-le-zero, le_of_suc-le-suc, eq-or-lt_of_le}
-use lib.ListN.{length, get_or, get_or-append}
-use lib.Seq.{get_or_at}
+use Rattle.std.proofs.Common.{ℕ, zero, suc, ◌<◌, ◌≡◌, ◌∙◌, [], ◌∷◌, map, ⊎_elim, not-suc-le-zero, le_of_suc-le-suc, eq-or-lt_of_le, length, get_or}
+use Rattle.std.proofs.lemmas.List.{get_or_at}
+use lib.ListN.{get_or-append}
 use Rattle.lists.specs.UpTo.{up_to, listed}
 use Rattle.lists.proofs.Sums.{each-length, sum_ones}
 use Rattle.lists.proofs.Each.{map_each}

@@ -1,11 +1,9 @@
 -- A list that is written over the front of another, one element after the other. Assumes nothing.
-use Prim.Native.Nat.{ℕ, suc, ◌+◌, ◌-◌, ◌≤◌, ◌<◌}
-use mathlib.Core.Path.{◌≡◌, refl, sym, ap, ◌∙◌}
-use mathlib.Core.List.{List, [], ◌∷◌, ◌++◌, append-nil, append_assoc}
-use native.Mathlib.Numerals.{add-one}
-use native.Mathlib.Omega.{arith}
-use lib.ListN.{length, drop, set, get_or, replicate, length-append, length-drop, length-replicate, get_or-replicate, drop_of_length-le}
-use lib.Seq.{drop-cons, set-append_seam, get_or-append-add, get_or-drop, ext_get_or}
+use Rattle.std.proofs.Common.{ℕ, suc, ◌+◌, ◌-◌, ◌≤◌, ◌<◌, ◌≡◌, refl, sym, ap, ◌∙◌, List, [], ◌∷◌, ◌++◌, append-nil, append_assoc, add-one, arith}
+use Rattle.std.proofs.Common.{length, drop, set, get_or, replicate, length-append, length-drop, drop_of_length-le, drop-cons, get_or-append-add}
+use Rattle.std.proofs.Common.{get_or-drop, ext_get_or}
+use Rattle.std.proofs.lemmas.List.{length-replicate, get_or-replicate}
+use lib.Seq.{set-append_seam}
 use Rattle.lists.specs.UpTo.{up_to, listed, overlay}
 use Rattle.lists.proofs.UpTo.{up_to-more}
 use Rattle.lists.proofs.Listed.{listed-length, listed_at}
@@ -25,9 +23,6 @@ module _ {A : Type 0} where
   overlay-whole xs ys h =
       let l : length ys ≤ length xs = omega arith in
       rw (drop_of_length-le ys l, append-nil)
-
-  pub filled-whole : (ys : List A) (v : A) → overlay (replicate (length ys) v) ys ≡ replicate (length ys) v
-  filled-whole ys v = overlay-whole _ ys (length-replicate (length ys) v)
 
   overlay-next : (xs ys : List A) (v : A) → length xs < length ys → set (overlay xs ys) (length xs) v ≡ overlay (xs ++ v ∷ []) ys
   unfolding overlay

@@ -1,8 +1,5 @@
 -- Laws of `turns` and `through`: a loop's first state and its next. Assumes nothing.
-use Prim.Native.Nat.{ℕ, ◌+◌}
-use mathlib.Core.Path.{◌≡◌, refl, sym, ap, ◌∙◌}
-use mathlib.Core.List.{List, [], ◌∷◌, ◌++◌}
-use native.Mathlib.Numerals.{add-one}
+use Rattle.std.proofs.Common.{ℕ, ◌+◌, ◌≡◌, refl, sym, ap, ◌∙◌, List, [], ◌∷◌, ◌++◌, add-one}
 use Rattle.lists.specs.UpTo.{up_to, each}
 use Rattle.lists.specs.Steps.{turns, through}
 use Rattle.lists.proofs.UpTo.{up_to-more}

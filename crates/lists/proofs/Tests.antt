@@ -1,9 +1,13 @@
--- Tests joined by `&&`. Assumes nothing.
-use Prim.Native.Nat.{ℕ, ◌+◌, ◌<◌}
-use mathlib.Core.Path.{◌≡◌, refl, sym}
-use mathlib.Core.Bool.{Bool, true, false, ◌&&◌}
-use Rattle.lists.specs.UpTo.{up_to, all}
+-- Tests joined by `&&`, and tests as numbers. Assumes nothing.
+use Rattle.std.proofs.Common.{ℕ, ◌+◌, ◌<◌, ◌≡◌, refl, sym, Bool, true, false, ◌&&◌}
+use mir.Val.{bool_byte}
+use Rattle.lists.specs.UpTo.{up_to, all, bit}
 use Rattle.lists.proofs.UpTo.{up_to-more, up_to-each}
+
+-- what `usize::from` makes of a test
+pub as_bit : (b : Bool) → bool_byte b ≡ bit b
+as_bit true = refl
+as_bit false = refl
 
 pub both : (a b : Bool) → a && b ≡ true → (a ≡ true) × (b ≡ true)
 both true b h = (refl, h)

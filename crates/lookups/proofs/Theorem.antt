@@ -1,18 +1,18 @@
 -- Every accepted network is numbered as `Numbered` says. Assumes nothing.
+use Rattle.std.proofs.lemmas.Bool.{false≢true, eqb-false, not-true}
 use Rattle.refusals.specs.Refusals.{Checked, passed, ◌or_else◌, refuse_unless, answer_if}
 use Rattle.refusals.specs.declared.Refusal.TheVariants.{PastEnd}
 use Rattle.refusals.proofs.Laws.{held, or_else_passed, answer-held}
 use Rattle.std.proofs.Common.{ℕ, ◌*◌, ◌<◌, ◌≡◌, refl, sym, ap, ◌∙◌, Bool, true, false, not, ◌||◌, List, arith, eqb, Float, lt-ltb, eq-eqb, ne_eqb, ltb, Some, Ok}
-use mathlib.Core.Bool.{false≢true}
 use native.Mathlib.Decide.{ℕ_discrete}
-use borrow.Author.Tests.{eqb-false, not-true}
 use Rattle.records.specs.AcNetwork.{AcNetwork}
 use Rattle.records.specs.Network.{network_of}
 use Rattle.records.specs.Check.{check_of}
 use Rattle.records.proofs.Laws.{accepted}
 use Rattle.records.proofs.Sound.{Sound, sound}
 use Rattle.numbering.specs.Blocks.{Block, records, block_at, Valid, number_of}
-use Rattle.numbering.specs.Numbering.{column_key, column_blocks, column_counted, column_number, column_at, nvar, column_many, cost_columns, row_key, row_blocks, row_counted, row_number, row_at}
+use Rattle.numbering.specs.Numbering.{column_key, column_blocks, column_counted, column_number, column_at, nvar, column_many, cost_columns, row_key}
+use Rattle.numbering.specs.Numbering.{row_blocks, row_counted, row_number, row_at}
 use Rattle.numbering.specs.Numbering.{ncon, row_many, cost_rows, jabr_rows, thermal_rows}
 use Rattle.numbering.specs.Layout.{InRange, layout_of, layout_columns, layout_rows}
 use Rattle.numbering.specs.Laid.{net_of, Laid}

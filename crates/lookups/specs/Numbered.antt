@@ -3,7 +3,8 @@
 use Rattle.std.specs.Prelude.{ℕ, ◌<◌, ◌≡◌, true, List, Some, Ok}
 use Rattle.records.specs.Network.{network_of}
 use Rattle.numbering.specs.Blocks.{Valid}
-use Rattle.numbering.specs.Numbering.{column_key, column_blocks, column_counted, column_number, ColumnStands, nvar, row_key, row_blocks, row_counted, row_number, RowStands, ncon, cone_lengths}
+use Rattle.numbering.specs.Numbering.{column_key, column_blocks, column_counted, column_number, ColumnStands, nvar, row_key, row_blocks, row_counted}
+use Rattle.numbering.specs.Numbering.{row_number, RowStands, ncon, cone_lengths}
 use Rattle.numbering.specs.Numbering.{added}
 use Rattle.numbering.specs.Layout.{layout_of}
 use Rattle.numbering.specs.Lookups.{column_in, row_in}

@@ -4,7 +4,7 @@ ghost use Rattle.refusals.specs.Refusals.{refuse_unless};
 ghost use Rattle.refusals.specs.declared.Refusal.TheVariants.{PastEnd};
 ghost use Rattle.numbering.specs.Blocks.{key};
 ghost use Rattle.numbering.specs.Numbering.{column_key, row_key, cost_columns, cost_rows, jabr_rows, thermal_rows};
-ghost use Rattle.numbering.specs.Laid.{net_of, Laid};
+ghost use Rattle.numbering.specs.Network.{grid};
 ghost use Rattle.lookups.specs.Lookups.{column_asked, row_asked, column_lookup, row_lookup};
 ghost use Rattle.numbering.specs.declared.ColumnName.TheVariants.{CostOf};
 ghost use Rattle.numbering.specs.declared.RowName.TheVariants.{Segment, Thermal};
@@ -12,7 +12,8 @@ ghost use Rattle.numbering.specs.declared.RowName.TheVariants.{Segment, Thermal}
 use names::keys;
 use numbering::inner::blocks;
 use numbering::inner::tally::tally;
-use numbering::{ColumnName, RowName, SocWrLayout, Tally};
+use numbering::{ColumnName, Key, Network, RowName, Tally};
+use records::Case;
 use refusals::{Refusal, refuse_unless};
 
 // 7 where an index is not below the end.
@@ -25,269 +26,165 @@ fn below(index: usize, end: usize) -> Result<(), Refusal>
 }
 
 // Kept: columns and rows have a function each; a trait over both would have these functions again, with laws to prove.
-// Kept: a block is a number in what follows, since it is the index of a table of lengths.
+// Kept: a block is a number, as in numbering::inner::blocks; `block < cost_columns` and `block < cost_rows` say which have one row or column a record.
 
 // A column of one of the blocks whose records have one column each.
-fn plain_column(
-    l: SocWrLayout,
-    bytes: &[u8],
-    block: usize,
-    item: usize,
-    place: usize,
-) -> Result<Option<u32>, Refusal>
-    requires { (Laid l bytes.now) × (block < cost_columns) }
-    ensures { result ≡ column_asked (net_of l bytes.now) (key block item place) }
+fn plain_column(net: &Network<'_>, x: Key) -> Result<Option<u32>, Refusal>
+    requires { x.block < cost_columns }
+    ensures { result ≡ column_asked (grid net.now) x }
 {
-    let sizes = blocks::column_sizes(l);
-    below(item, sizes[block])?;
-    below(place, 1)?;
-    Ok(Some(l.column_at(block, item)))
+    let sizes = blocks::column_sizes(net.layout);
+    below(x.item, sizes[x.block])?;
+    below(x.place, 1)?;
+    Ok(Some(net.layout.column_at(x.block, x.item)))
 }
 
 // A row of one of the blocks whose records have one row each.
-fn plain_row(
-    l: SocWrLayout,
-    bytes: &[u8],
-    block: usize,
-    item: usize,
-    place: usize,
-) -> Result<Option<u32>, Refusal>
-    requires { (Laid l bytes.now) × (block < cost_rows) }
-    ensures { result ≡ row_asked (net_of l bytes.now) (key block item place) }
+fn plain_row(net: &Network<'_>, x: Key) -> Result<Option<u32>, Refusal>
+    requires { x.block < cost_rows }
+    ensures { result ≡ row_asked (grid net.now) x }
 {
-    let sizes = blocks::row_sizes(l);
-    below(item, sizes[block])?;
-    below(place, 1)?;
-    Ok(Some(l.row_at(block, item)))
+    let sizes = blocks::row_sizes(net.layout);
+    below(x.item, sizes[x.block])?;
+    below(x.place, 1)?;
+    Ok(Some(net.layout.row_at(x.block, x.item)))
 }
 
+// Kept: cost columns, segments and limits have a function each: what they test, count and number by differs.
 // The cost column of generator g.
-fn cost_column(l: SocWrLayout, bytes: &[u8], g: usize, place: usize) -> Result<Option<u32>, Refusal>
-    requires { Laid l bytes.now }
-    ensures { result ≡ column_asked (net_of l bytes.now) (key cost_columns g place) }
+fn cost_column(net: &Network<'_>, g: usize, place: usize) -> Result<Option<u32>, Refusal>
+    ensures { result ≡ column_asked (grid net.now) (key cost_columns g place) }
 {
-    below(g, l.k)?;
-    let first = l.n + l.m;
-    if !records::inner::piecewise(bytes, first + g) {
+    below(g, net.layout.k)?;
+    let generator = net.generator(g);
+    if !generator.piecewise() {
         return Ok(None);
     }
     below(place, 1)?;
-    let before = tally(bytes, Tally::Piecewise, first, g);
-    Ok(Some(l.cost_column(before)))
+    let before = tally(Tally::Piecewise, net.generators().take(g));
+    Ok(Some(net.layout.cost_column(before)))
 }
 
 // The row of a segment of generator g.
-fn segment_row(
-    l: SocWrLayout,
-    bytes: &[u8],
-    g: usize,
-    segment: usize,
-) -> Result<Option<u32>, Refusal>
-    requires { Laid l bytes.now }
-    ensures { result ≡ row_asked (net_of l bytes.now) (key cost_rows g segment) }
+fn segment_row(net: &Network<'_>, g: usize, segment: usize) -> Result<Option<u32>, Refusal>
+    ensures { result ≡ row_asked (grid net.now) (key cost_rows g segment) }
 {
-    below(g, l.k)?;
-    let first = l.n + l.m;
-    if !records::inner::piecewise(bytes, first + g) {
+    below(g, net.layout.k)?;
+    let generator = net.generator(g);
+    if !generator.piecewise() {
         return Ok(None);
     }
-    below(segment, records::inner::segments(bytes, first + g))?;
-    let before = tally(bytes, Tally::Segments, first, g);
-    Ok(Some(l.segment_row(before + segment)))
+    below(segment, generator.segments())?;
+    let before = tally(Tally::Segments, net.generators().take(g));
+    Ok(Some(net.layout.segment_row(before + segment)))
 }
 
 // A row of branch e's cone of four.
-fn jabr_row(l: SocWrLayout, bytes: &[u8], e: usize, place: usize) -> Result<Option<u32>, Refusal>
-    requires { Laid l bytes.now }
-    ensures { result ≡ row_asked (net_of l bytes.now) (key jabr_rows e place) }
+fn jabr_row(net: &Network<'_>, e: usize, place: usize) -> Result<Option<u32>, Refusal>
+    ensures { result ≡ row_asked (grid net.now) (key jabr_rows e place) }
 {
-    below(e, l.m)?;
+    below(e, net.layout.m)?;
     below(place, blocks::JABR_ROWS)?;
-    Ok(Some(l.jabr_row(e, place)))
+    Ok(Some(net.layout.jabr_row(e, place)))
 }
 
 // A row of branch e's two cones of three.
-fn thermal_row(l: SocWrLayout, bytes: &[u8], e: usize, place: usize) -> Result<Option<u32>, Refusal>
-    requires { Laid l bytes.now }
-    ensures { result ≡ row_asked (net_of l bytes.now) (key thermal_rows e place) }
+fn thermal_row(net: &Network<'_>, e: usize, place: usize) -> Result<Option<u32>, Refusal>
+    ensures { result ≡ row_asked (grid net.now) (key thermal_rows e place) }
 {
-    below(e, l.m)?;
-    if !records::inner::thermal_limit_active(bytes, l.n + e) {
+    below(e, net.layout.m)?;
+    if !net.branch(e).thermal_limit_active() {
         return Ok(None);
     }
     below(place, blocks::THERMAL_ROWS)?;
-    let before = tally(bytes, Tally::Limited, l.n, e);
-    Ok(Some(l.thermal_row(before, place)))
+    let before = tally(Tally::Limited, net.branches().take(e));
+    Ok(Some(net.layout.thermal_row(before, place)))
 }
 
 // A column of accepted records, by block, record and place.
-fn column_asked(
-    l: SocWrLayout,
-    bytes: &[u8],
-    block: usize,
-    item: usize,
-    place: usize,
-) -> Result<Option<u32>, Refusal>
-    requires { Laid l bytes.now }
-    ensures { result ≡ column_asked (net_of l bytes.now) (key block item place) }
+fn column_asked(net: &Network<'_>, x: Key) -> Result<Option<u32>, Refusal>
+    ensures { result ≡ column_asked (grid net.now) x }
 {
-    if block < blocks::COST {
-        return plain_column(l, bytes, block, item, place);
+    if x.block < blocks::COST {
+        return plain_column(net, x);
     }
-    if block == blocks::COST {
-        return cost_column(l, bytes, item, place);
+    if x.block == blocks::COST {
+        return cost_column(net, x.item, x.place);
     }
-    Err(Refusal::PastEnd(block as u64))
+    Err(Refusal::PastEnd(x.block as u64))
 }
 
 // A row of accepted records, by block, record and place.
-fn row_asked(
-    l: SocWrLayout,
-    bytes: &[u8],
-    block: usize,
-    item: usize,
-    place: usize,
-) -> Result<Option<u32>, Refusal>
-    requires { Laid l bytes.now }
-    ensures { result ≡ row_asked (net_of l bytes.now) (key block item place) }
+fn row_asked(net: &Network<'_>, x: Key) -> Result<Option<u32>, Refusal>
+    ensures { result ≡ row_asked (grid net.now) x }
 {
-    if block < blocks::SEGMENT {
-        return plain_row(l, bytes, block, item, place);
+    if x.block < blocks::SEGMENT {
+        return plain_row(net, x);
     }
-    if block == blocks::SEGMENT {
-        return segment_row(l, bytes, item, place);
+    if x.block == blocks::SEGMENT {
+        return segment_row(net, x.item, x.place);
     }
-    if block == blocks::JABR {
-        return jabr_row(l, bytes, item, place);
+    if x.block == blocks::JABR {
+        return jabr_row(net, x.item, x.place);
     }
-    if block == blocks::THERMAL {
-        return thermal_row(l, bytes, item, place);
+    if x.block == blocks::THERMAL {
+        return thermal_row(net, x.item, x.place);
     }
-    Err(Refusal::PastEnd(block as u64))
+    Err(Refusal::PastEnd(x.block as u64))
 }
 
 // The number of a column by its block, its record and its place, which is 0.
-pub fn column_number_at(
-    n: usize,
-    m: usize,
-    k: usize,
-    s: usize,
-    bytes: &[u8],
-    block: usize,
-    item: usize,
-    place: usize,
-) -> Result<Option<u32>, Refusal>
-    ensures { result ≡ column_lookup n m k s bytes.now (key block item place) }
+pub fn column_number_at(case: Case<'_>, x: Key) -> Result<Option<u32>, Refusal>
+    ensures { result ≡ column_lookup case.entry.n case.entry.m case.entry.k case.entry.s case.entry.bytes.now x }
 {
-    column_asked(
-        SocWrLayout::new(n, m, k, s, bytes)?,
-        bytes,
-        block,
-        item,
-        place,
-    )
+    column_asked(&Network::new(case)?, x)
 }
 
 // The number of a row by its block, its record and its place.
-pub fn row_number_at(
-    n: usize,
-    m: usize,
-    k: usize,
-    s: usize,
-    bytes: &[u8],
-    block: usize,
-    item: usize,
-    place: usize,
-) -> Result<Option<u32>, Refusal>
-    ensures { result ≡ row_lookup n m k s bytes.now (key block item place) }
+pub fn row_number_at(case: Case<'_>, x: Key) -> Result<Option<u32>, Refusal>
+    ensures { result ≡ row_lookup case.entry.n case.entry.m case.entry.k case.entry.s case.entry.bytes.now x }
 {
-    row_asked(
-        SocWrLayout::new(n, m, k, s, bytes)?,
-        bytes,
-        block,
-        item,
-        place,
-    )
+    row_asked(&Network::new(case)?, x)
 }
 
-pub fn column_number(
-    n: usize,
-    m: usize,
-    k: usize,
-    s: usize,
-    bytes: &[u8],
-    name: ColumnName,
-) -> Result<Option<u32>, Refusal>
-    ensures { result ≡ column_lookup n m k s bytes.now (column_key name) }
+pub fn column_number(case: Case<'_>, name: ColumnName) -> Result<Option<u32>, Refusal>
+    ensures { result ≡ column_lookup case.entry.n case.entry.m case.entry.k case.entry.s case.entry.bytes.now (column_key name) }
 {
-    let x = keys::column_key(name);
-    column_number_at(n, m, k, s, bytes, x.block, x.item, x.place)
+    column_number_at(case, keys::column_key(name))
 }
 
-pub fn row_number(
-    n: usize,
-    m: usize,
-    k: usize,
-    s: usize,
-    bytes: &[u8],
-    name: RowName,
-) -> Result<Option<u32>, Refusal>
-    ensures { result ≡ row_lookup n m k s bytes.now (row_key name) }
+pub fn row_number(case: Case<'_>, name: RowName) -> Result<Option<u32>, Refusal>
+    ensures { result ≡ row_lookup case.entry.n case.entry.m case.entry.k case.entry.s case.entry.bytes.now (row_key name) }
 {
-    let x = keys::row_key(name);
-    row_number_at(n, m, k, s, bytes, x.block, x.item, x.place)
+    row_number_at(case, keys::row_key(name))
 }
 
-pub fn col_cost(
-    n: usize,
-    m: usize,
-    k: usize,
-    s: usize,
-    bytes: &[u8],
-    generator: usize,
-) -> Result<Option<u32>, Refusal>
-    ensures { result ≡ column_lookup n m k s bytes.now (column_key (CostOf generator)) }
+pub fn col_cost(case: Case<'_>, generator: usize) -> Result<Option<u32>, Refusal>
+    ensures { result ≡ column_lookup case.entry.n case.entry.m case.entry.k case.entry.s case.entry.bytes.now (column_key (CostOf generator)) }
 {
-    column_number_at(n, m, k, s, bytes, blocks::COST, generator, 0)
+    column_number(case, ColumnName::CostOf(generator))
 }
 
 pub fn r_cost_segment(
-    n: usize,
-    m: usize,
-    k: usize,
-    s: usize,
-    bytes: &[u8],
+    case: Case<'_>,
     generator: usize,
     segment: usize,
 ) -> Result<Option<u32>, Refusal>
-    ensures { result ≡ row_lookup n m k s bytes.now (row_key (Segment generator segment)) }
+    ensures { result ≡ row_lookup case.entry.n case.entry.m case.entry.k case.entry.s case.entry.bytes.now (row_key (Segment generator segment)) }
 {
-    row_number_at(n, m, k, s, bytes, blocks::SEGMENT, generator, segment)
+    row_number(case, RowName::Segment(generator, segment))
 }
 
+// Kept: r_sf and r_st are two of the Rust's names, each one call.
 // The first row of the cone at a branch's from end, and at its to end.
-pub fn r_sf(
-    n: usize,
-    m: usize,
-    k: usize,
-    s: usize,
-    bytes: &[u8],
-    e: usize,
-) -> Result<Option<u32>, Refusal>
-    ensures { result ≡ row_lookup n m k s bytes.now (row_key (Thermal e 0)) }
+pub fn r_sf(case: Case<'_>, e: usize) -> Result<Option<u32>, Refusal>
+    ensures { result ≡ row_lookup case.entry.n case.entry.m case.entry.k case.entry.s case.entry.bytes.now (row_key (Thermal e 0)) }
 {
-    row_number_at(n, m, k, s, bytes, blocks::THERMAL, e, 0)
+    row_number(case, RowName::Thermal(e, 0))
 }
 
-pub fn r_st(
-    n: usize,
-    m: usize,
-    k: usize,
-    s: usize,
-    bytes: &[u8],
-    e: usize,
-) -> Result<Option<u32>, Refusal>
-    ensures { result ≡ row_lookup n m k s bytes.now (row_key (Thermal e 3)) }
+pub fn r_st(case: Case<'_>, e: usize) -> Result<Option<u32>, Refusal>
+    ensures { result ≡ row_lookup case.entry.n case.entry.m case.entry.k case.entry.s case.entry.bytes.now (row_key (Thermal e 3)) }
 {
-    row_number_at(n, m, k, s, bytes, blocks::THERMAL, e, 3)
+    row_number(case, RowName::Thermal(e, 3))
 }

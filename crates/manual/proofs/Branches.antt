@@ -1,6 +1,5 @@
 -- The multiplied-out Ybr is 2 τ² times the manual's, where cos² + sin² is 1: across, the two products differ by that factor alone. Assumes nothing.
-use mathlib.Core.Path.{◌≡◌, sym, ◌∙◌, ap}
-use mathlib.Core.List.{List, [], ◌∷◌}
+use Rattle.std.proofs.Common.{◌≡◌, sym, ◌∙◌, ap, List, [], ◌∷◌}
 use Rattle.ring.specs.Ops.{Ops}
 use Rattle.ring.specs.Laws.{CommutativeRing}
 use Rattle.ring.proofs.Ring.{E, formal, Same, den, ring}
@@ -38,7 +37,8 @@ module _ {A : Type 0} (o : Ops A) (R : CommutativeRing o) where
   values l = l.g ∷ l.b ∷ l.bc ∷ l.τ ∷ l.cosθ ∷ l.sinθ ∷ []
 
   -- two complex numbers that are polynomials in a line
-  by_parts : (l : Line A) (a b : Complex E) → Same a.re b.re → Same a.im b.im → ◌≡◌ {A = Complex A} (complex o (den o a.re (values l)) (den o a.im (values l))) (complex o (den o b.re (values l)) (den o b.im (values l)))
+  by_parts : (l : Line A) (a b : Complex E) → Same a.re b.re → Same a.im b.im
+      → ◌≡◌ {A = Complex A} (complex o (den o a.re (values l)) (den o a.im (values l))) (complex o (den o b.re (values l)) (den o b.im (values l)))
   by_parts l a b p q = λ i. record { re = ring o R a.re b.re (values l) p i; im = ring o R a.im b.im (values l) q i }
 
   unnormed : (l : Line A) (z : Complex A) → norm o l ≡ o.one → normed o l z ≡ z

@@ -1,15 +1,7 @@
 -- s lies in the product of the cones exactly where every row's meaning holds: the rows in their order are the blocks one after another, so each cone
 -- gets the rows of its blocks, and of each row or cone it is known what it says. Assumes nothing.
-use Prim.Native.Nat.{ℕ, zero, suc, ◌+◌, ◌*◌, ◌<◌}
-use mathlib.Core.Path.{◌≡◌, refl, sym, ◌∙◌, ap}
+use Rattle.std.proofs.Common.{ℕ, zero, suc, ◌+◌, ◌*◌, ◌<◌, ◌≡◌, refl, sym, ◌∙◌, ap, ◌↔◌, true, List, [], ◌∷◌, ◌++◌, map, arith, length, replicate, length-append, ℤ, pos, ◌+ℤ◌, ◌*ℤ◌, ◌≤ℤ◌}
 use mathlib.Core.Logic.Iff
-use mathlib.Core.Logic.{◌↔◌}
-use mathlib.Core.Bool.{true}
-use mathlib.Core.List.{List, [], ◌∷◌, ◌++◌, map}
-use native.Mathlib.Omega.{arith}
-use lib.ListN.{length, replicate, length-append}
-use lib.IntN.{ℤ, pos, ◌+ℤ◌, ◌*ℤ◌}
-use lib.Signed.{◌≤ℤ◌}
 use Rattle.lists.specs.UpTo.{up_to, each, when, sum}
 use Rattle.lists.specs.Entries.{Every}
 use Rattle.lists.proofs.Sums.{each-length, sum_ones, sum_ext}

@@ -1,9 +1,6 @@
 -- All that is proved from the two documents, put together. Assumes nothing.
+use Rattle.std.proofs.Common.{ℕ, ◌≡◌, List, ℤ}
 use Rattle.refusals.specs.Refusals.{passed}
-use Prim.Native.Nat.{ℕ}
-use mathlib.Core.Path.{◌≡◌}
-use mathlib.Core.List.{List}
-use lib.IntN.{ℤ}
 use Rattle.lists.specs.UpTo.{sum}
 use Rattle.records.specs.AcNetwork.{AcNetwork}
 use Rattle.records.specs.Network.{network_of}

@@ -1,5 +1,5 @@
 -- A line and complex numbers as polynomials in the variables, for `ring`. Assumes nothing.
-use Prim.Native.Nat.{ℕ}
+use Rattle.std.proofs.Common.{ℕ}
 use Rattle.ring.proofs.Ring.{E, var}
 use Rattle.manual.specs.Matpower.{Complex, Line}
 

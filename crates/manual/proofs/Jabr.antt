@@ -1,9 +1,5 @@
 -- The four rows of a branch's cone: 2 s = (w_f + w_t, 2 wr, 2 wi, w_f - w_t), whichever bus comes first. Assumes nothing.
-use Prim.Native.Nat.{ℕ}
-use mathlib.Core.Path.{◌≡◌, ◌∙◌}
-use mathlib.Core.Bool.{Bool, true, false, cond}
-use mathlib.Core.List.{[], ◌∷◌}
-use lib.Dec.{ltb}
+use Rattle.std.proofs.Common.{ℕ, ◌≡◌, ◌∙◌, Bool, true, false, cond, [], ◌∷◌, ltb}
 use Rattle.ring.specs.Ops.{Ops}
 use Rattle.ring.specs.Laws.{CommutativeRing}
 use Rattle.ring.proofs.Ring.{var, zeroᴱ, oneᴱ, twoᴱ, plus, minus, times, opposite, formal, ring}

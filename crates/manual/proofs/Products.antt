@@ -1,17 +1,12 @@
 -- The product of cones, list by list: the rows of the cones before go to them, the rest to the rest; and cones alike, one for each branch or two for
 -- each limited one. Assumes nothing.
-use Prim.Native.Nat.{ℕ, zero, suc, ◌+◌, ◌*◌, ◌≤◌, ◌<◌}
-use mathlib.Core.Path.{◌≡◌, refl, sym, ◌∙◌, ap, subst}
+use Rattle.std.proofs.Common.{ℕ, zero, suc, ◌+◌, ◌*◌, ◌≤◌, ◌<◌, ◌≡◌, refl, sym, ◌∙◌, ap, subst, ◌↔◌, Bool, true, false, List, [], ◌∷◌, ◌++◌, map}
+use Rattle.std.proofs.Common.{arith, add-one, length, take, drop, replicate, length-append, length-drop, take_all, ℤ}
+use Rattle.std.proofs.lemmas.Bool.{false≢true}
+use Rattle.std.proofs.lemmas.List.{replicate-append-replicate, take-append-le, drop-append-le}
 use mathlib.Core.Logic.Iff
-use mathlib.Core.Logic.{◌↔◌}
-use mathlib.Core.Bool.{Bool, true, false, false≢true}
-use mathlib.Core.List.{List, [], ◌∷◌, ◌++◌, map}
-use native.Mathlib.Omega.{arith}
 use native.Mathlib.Decide.{dec_lt}
-use native.Mathlib.Numerals.{add-one}
-use lib.ListN.{length, take, drop, replicate, length-append, length-drop, replicate-append-replicate}
-use lib.Seq.{take_all, drop-length, take-append-le, drop-append-le}
-use lib.IntN.{ℤ}
+use lib.Seq.{drop-length}
 use Rattle.lists.specs.UpTo.{up_to, each, when, bit, count}
 use Rattle.lists.specs.Entries.{Every, none, also}
 use Rattle.lists.proofs.Ascending.{every_append as append-every}

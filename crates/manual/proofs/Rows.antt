@@ -1,14 +1,9 @@
 -- What it says that the s of a row, or of a cone's rows, lies in its cone, on whole numbers: s is twice a difference, or the four or three rows are
 -- twice the vector whose norm is bounded. Assumes nothing.
-use Prim.Native.Nat.{ℕ, suc, ◌+◌}
-use mathlib.Core.Path.{◌≡◌, refl, subst, sym, ◌∙◌, ap}
+use Rattle.std.proofs.Common.{ℕ, suc, ◌+◌, ◌≡◌, refl, subst, sym, ◌∙◌, ap, ◌↔◌, Bool, true, false, List, [], ◌∷◌, arith, ℤ, pos, negsuc, neg_ℤ, ◌+ℤ◌, ◌-ℤ◌, ◌*ℤ◌, nat_abs, ◌≤ℤ◌}
+use Rattle.std.proofs.lemmas.Bool.{false≢true}
 use mathlib.Core.Logic.Iff
-use mathlib.Core.Logic.{◌↔◌}
-use mathlib.Core.Bool.{Bool, true, false, false≢true}
-use mathlib.Core.List.{List, [], ◌∷◌}
-use native.Mathlib.Omega.{arith}
-use lib.IntN.{ℤ, pos, negsuc, neg_ℤ, ◌+ℤ◌, ◌-ℤ◌, ◌*ℤ◌, nat_abs, pos-ne-negsuc}
-use lib.Signed.{◌≤ℤ◌}
+use lib.IntN.{pos-ne-negsuc}
 use Rattle.ring.specs.Ops.{whole}
 use Rattle.ring.proofs.Laws.{whole-ring, equal-less, less_equal}
 use Rattle.ring.proofs.Ring.{E, var, zeroᴱ, twoᴱ, plus, minus, times, opposite, formal, ring}
@@ -112,7 +107,8 @@ module _ (G : AcNetwork ℤ) (x : ColumnName → ℤ) where
   angub-law e =
       switched (G.angled e)
       (λ h. rw h (by-twice _ (x (Wi e)) (G.tanmax e *ℤ x (Wr e))
-      (ring whole whole-ring (row_f zeroᴱ (cell (Pg 0) (plain (opposite (var 2))) ∷ cell (Pg 1) (constant one) ∷ [])) (gap (var 1) (times (var 2) (var 0))) (x (Wr e) ∷ x (Wi e) ∷ G.tanmax e ∷ []) tt)))
+      (ring whole whole-ring (row_f zeroᴱ (cell (Pg 0) (plain (opposite (var 2))) ∷ cell (Pg 1) (constant one) ∷ [])) (gap (var 1) (times (var 2) (var 0)))
+      (x (Wr e) ∷ x (Wi e) ∷ G.tanmax e ∷ []) tt)))
       (λ h. rw h one_free)
 
   pub anglb-law : (e : ℕ) → (pos 0 ≤ℤ slack whole G x (Anglb e)) ↔ (G.angled e ≡ true → (G.tanmin e *ℤ x (Wr e)) ≤ℤ x (Wi e))

@@ -1,17 +1,14 @@
 -- S_bus by branches: V conj(Ybus V) at a bus is the sum of its branches' S_f and S_t and of its shunt's power. The sums over buses and branches
 -- change places, a row of Y_f picks the branch's two buses, and a branch that is not at the bus adds nothing. Assumes nothing.
-use Prim.Native.Nat.{ℕ, ◌<◌}
-use mathlib.Core.Path.{◌≡◌, refl, sym, ◌∙◌, ap, ap₂}
-use mathlib.Core.Bool.{Bool, true, false, cond}
-use borrow.Author.Tests.{eqb-true}
-use lib.Dec.{eqb}
+use Rattle.std.proofs.Common.{ℕ, ◌<◌, ◌≡◌, refl, sym, ◌∙◌, ap, ap₂, Bool, true, false, cond, eqb, eqb-true}
 use Rattle.ring.specs.Ops.{Ops}
 use Rattle.ring.specs.Laws.{CommutativeRing}
 use Rattle.ring.proofs.Ring.{zeroᴱ, formal}
 use Rattle.records.specs.AcNetwork.{AcNetwork}
 use Rattle.manual.specs.Matpower.{Complex, YbrEntry, ff, ft, tf, tt', conj}
 use Rattle.manual.specs.Balance.{complex_sum, connected, weighed_by, joins, shunt, ybus, ibus, sbus, by_branches}
-use Rattle.manual.proofs.Complexes.{◌⊞◌, ◌⊠◌, nil, a_f, b_f, law, sum-times, times-conj-sum, weighed-times, times-conj-weighed, csum_ext, csum_add, csum_times, times-conj_csum, csum_weighed, csum_swap, pick}
+use Rattle.manual.proofs.Complexes.{◌⊞◌, ◌⊠◌, nil, a_f, b_f, law, sum-times, times-conj-sum, weighed-times, times-conj-weighed, csum_ext, csum_add}
+use Rattle.manual.proofs.Complexes.{csum_times, times-conj_csum, csum_weighed, csum_swap, pick}
 
 module _ {A : Type 0} (o : Ops A) (R : CommutativeRing o) (G : AcNetwork A) (y : ℕ → YbrEntry → Complex A) (v : ℕ → Complex A) where
   -- a row of Y_f or Y_t: element a at the from bus, element b at the to bus

@@ -1,9 +1,6 @@
 -- The whole at voltages: an Ohm row's zero s gives the column the manual's power, since 2 τ² can be divided out; so the mismatch is S_bus and the
 -- rest of the power balance. A cone of four holds with equality: (w_f + w_t)² - (w_f - w_t)² is 4 |v_f|² |v_t|². Assumes nothing.
-use Prim.Native.Nat.{ℕ, ◌<◌}
-use mathlib.Core.Path.{◌≡◌, sym, ◌∙◌, ap, ap₂, subst}
-use mathlib.Core.Logic.{◌↔◌}
-use mathlib.Core.List.{List, [], ◌∷◌}
+use Rattle.std.proofs.Common.{ℕ, ◌<◌, ◌≡◌, sym, ◌∙◌, ap, ap₂, subst, ◌↔◌, List, [], ◌∷◌}
 use Rattle.ring.specs.Ops.{Ops}
 use Rattle.ring.specs.Laws.{CommutativeRing, Cancels}
 use Rattle.ring.proofs.Laws.{equal-less, mul-zero}
@@ -109,9 +106,12 @@ module _ {A : Type 0} (o : Ops A) (R : CommutativeRing o) where
       -- where the row's s is zero, the column holds the power
       held : (r : OhmRow) (s : A) → slack o G x (ohm_row r e) ≡ o.zero → from_v o l vf vt r ≡ scale o l * s → x (flow_column r e) ≡ s
       held r s h p =
+          let ends = H.buses-below e below in
+          let square-from = H.squares (G.from e) ends.0 in
+          let square-to = H.squares (G.to e) ends.1 in
           cancel o R (scale o l) (x (flow_column r e)) s (scale_cancels l (H.unit e below) H.halves (H.ratio e below))
           (sym (equal-less o R (from_v o l vf vt r) (scale o l * x (flow_column r e))
-          (sym (at-voltages o R G x e vf vt r (H.symmetric e below) (H.squares (G.from e) (H.buses-below e below).0) (H.squares (G.to e) (H.buses-below e below).1) (H.real-part e below) (H.imaginary_part e below)) ∙ h))
+          (sym (at-voltages o R G x e vf vt r (H.symmetric e below) square-from square-to (H.real-part e below) (H.imaginary_part e below)) ∙ h))
           ∙ p)
 
       from-flow : ((r : OhmRow) → slack o G x (ohm_row r e) ≡ o.zero) → sf_at o G x e ≡ sf o (y e) vf vt

@@ -1,11 +1,6 @@
 -- What a row's terms have in a column. Assumes nothing.
-use Prim.Native.Nat.{ℕ, zero, suc, ◌+◌, ◌<◌}
-use mathlib.Core.Path.{◌≡◌, refl, sym, ◌∙◌}
-use mathlib.Core.List.{List, [], ◌∷◌, ◌++◌, append_assoc, append-nil}
-use mathlib.Core.Bool.{Bool, true, false, ◌&&◌, cond}
-use lib.Dec.{eqb, ltb}
-use lib.Ieee.{Float, ne, neg}
-use borrow.Author.Tests.{eqb-true}
+use Rattle.std.proofs.Common.{ℕ, zero, suc, ◌<◌, ◌≡◌, refl, sym, ◌∙◌, List, [], ◌∷◌, ◌++◌, append_assoc, append-nil, Bool, true, false, ◌&&◌, cond, eqb, ltb, Float, eqb-true}
+use Rattle.std.specs.Float.Ieee.{ne, neg}
 use Rattle.lists.specs.UpTo.{up_to, each, when}
 use Rattle.lists.specs.Entries.{Cell}
 use Rattle.lists.proofs.Each.{when_false, when-nil, when-swap, when-append, each_nil, each_ext, each_at, each-at-when, each-hit, each_group, each_three, each-four, when_pairs, when-order}
@@ -22,7 +17,9 @@ use Rattle.rows.specs.Rows.{Constant, one, minus_one, half, minus_half, constant
 use Rattle.rows.specs.declared.OhmRow.TheVariants.{Pf as pf, Qf as qf, Pt as pt, Qt as qt}
 use Rattle.rows.specs.Program.{every_row}
 use Rattle.rows.proofs.Shape.{hit_terms, end_terms}
-use Rattle.matrix.specs.Columns.{one_cell, nonzero_cell, at, keep, slope_cell, pg_cells, qg_cells, shunt_cells, ohm_cell, bound_cells, cone_from, cone_to, ohm_at, cones_at, w_cells, ohm_column_cells, wr_cells, wi_cells, flow_cells, cost_cell, cost_cells, column_cells}
+use Rattle.matrix.specs.Columns.{one_cell, nonzero_cell, at, keep, slope_cell, pg_cells, qg_cells, shunt_cells, ohm_cell, bound_cells, cone_from}
+use Rattle.matrix.specs.Columns.{cone_to, ohm_at, cones_at, w_cells, ohm_column_cells, wr_cells, wi_cells, flow_cells, cost_cell, cost_cells}
+use Rattle.matrix.specs.Columns.{column_cells}
 use Rattle.matrix.proofs.Shaped.{sole, ohm_terms, shaped}
 
 -- whether two columns have the same block and record
@@ -72,9 +69,15 @@ module _ (κ : ColumnName) (r : ℕ) where
   unfolding kept nonzero_cell sole
   cut-kept c v = rw (cut-when (ne v zero64) (sole c v), cut-sole c v) (when-swap (ne v zero64) (same c κ) (one_cell r v))
 
-  cut-hits : (n : ℕ) (s : ℕ → ℕ) (i : ℕ) (c : ℕ → ColumnName) (v : Constant) → cut κ r (hit_terms n s i c v) ≡ each n (λ j. when (same (c j) κ) (when (eqb (s j) i) (one_cell r (constant64 v))))
+  cut-hits : (n : ℕ) (s : ℕ → ℕ) (i : ℕ) (c : ℕ → ColumnName) (v : Constant)
+      → cut κ r (hit_terms n s i c v) ≡ each n (λ j. when (same (c j) κ) (when (eqb (s j) i) (one_cell r (constant64 v))))
   unfolding hit_terms sole
-  cut-hits n s i c v = cut-each n _ ∙ each_ext _ _ n (λ j l. rw (cut-when (eqb (s j) i) (sole (c j) (constant64 v)), cut-sole (c j) (constant64 v)) (when-swap (eqb (s j) i) (same (c j) κ) (one_cell r (constant64 v))))
+  cut-hits n s i c v =
+      cut-each n _
+      ∙ each_ext _ _ n
+      (λ j l.
+      rw (cut-when (eqb (s j) i) (sole (c j) (constant64 v)), cut-sole (c j) (constant64 v))
+      (when-swap (eqb (s j) i) (same (c j) κ) (one_cell r (constant64 v))))
 
   cut-cond : (b : Bool) (xs ys : List Term) → cut κ r (cond b xs ys) ≡ cond b (cut κ r xs) (cut κ r ys)
   cut-cond true xs ys = refl

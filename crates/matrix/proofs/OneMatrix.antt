@@ -1,15 +1,9 @@
 -- A by rows and A by columns are one matrix. Assumes nothing.
-use Prim.Native.Nat.{ℕ, zero, suc, ◌+◌, ◌≤◌, ◌<◌}
-use mathlib.Core.Path.{◌≡◌, refl, sym, ap, ◌∙◌}
-use mathlib.Core.Bool.{Bool, true, false, ◌&&◌}
-use mathlib.Core.List.{List, [], ◌∷◌, ◌++◌, append_assoc, map}
-use native.Mathlib.Omega.{arith}
+use Rattle.std.proofs.Common.{ℕ, zero, suc, ◌+◌, ◌≤◌, ◌<◌, ◌≡◌, refl, sym, ap, ◌∙◌, Bool, true, false, ◌&&◌, List, [], ◌∷◌, ◌++◌, append_assoc, map}
+use Rattle.std.proofs.Common.{arith, eqb, length, get_or, length-append, Float, eq-eqb, ne_eqb}
+use Rattle.std.proofs.lemmas.List.{get_or_at}
 use native.Mathlib.Decide.{ℕ_discrete, dec_lt}
-use lib.Dec.{eqb}
-use lib.ListN.{length, get_or, length-append, get_or-append}
-use lib.Seq.{get_or_at}
-use lib.Ieee.{Float}
-use borrow.Author.Tests.{eq-eqb, ne_eqb}
+use lib.ListN.{get_or-append}
 use Rattle.lists.specs.UpTo.{up_to, each, listed, when, bit}
 use Rattle.lists.specs.Entries.{Entry, entry, sits, times, Cell, cell, select}
 use Rattle.lists.proofs.Each.{each_ext, each_at, each_none, each_nil, when-nil}

@@ -1,12 +1,6 @@
 -- The rows ascend in each column. Assumes nothing.
-use Prim.Native.Nat.{ℕ, zero, suc, ◌+◌, ◌*◌, ◌≤◌, ◌<◌}
-use mathlib.Core.Path.{◌≡◌, refl, sym, ◌∙◌}
-use mathlib.Core.Bool.{Bool, true, false}
-use mathlib.Core.List.{List, [], ◌++◌}
-use native.Mathlib.Omega.{arith}
-use lib.Dec.{eqb}
-use lib.Ieee.{Float, ne}
-use borrow.Author.Tests.{eqb-true}
+use Rattle.std.proofs.Common.{ℕ, zero, suc, ◌+◌, ◌*◌, ◌≤◌, ◌<◌, ◌≡◌, refl, sym, ◌∙◌, Bool, true, false, List, [], ◌++◌, arith, eqb, Float, eqb-true}
+use Rattle.std.specs.Float.Ieee.{ne}
 use Rattle.lists.specs.UpTo.{up_to, each, when}
 use Rattle.lists.specs.Entries.{Cell}
 use Rattle.lists.proofs.Sums.{sum_mono, sum-next}
@@ -21,7 +15,8 @@ use Rattle.numbering.proofs.Numbers.{numbers, HasColumn, HasRow, row_below, row-
 use Rattle.rows.specs.Rows.{zero64, OhmPlace, wr, wi, end_bus, ohm_row}
 use Rattle.rows.specs.declared.OhmRow.{OhmRow}
 use Rattle.rows.specs.declared.OhmRow.TheVariants.{Pf as pf, Qf as qf, Pt as pt, Qt as qt}
-use Rattle.matrix.specs.Columns.{one_cell, nonzero_cell, pg_cells, slope_cell, qg_cells, shunt_cells, ohm_cell, bound_cells, cone_from, cone_to, ohm_at, cones_at, w_cells, ohm_column_cells, wr_cells, wi_cells, flow_cells, cost_cell, cost_cells, column_cells}
+use Rattle.matrix.specs.Columns.{one_cell, nonzero_cell, pg_cells, slope_cell, qg_cells, shunt_cells, ohm_cell, bound_cells, cone_from, cone_to}
+use Rattle.matrix.specs.Columns.{ohm_at, cones_at, w_cells, ohm_column_cells, wr_cells, wi_cells, flow_cells, cost_cell, cost_cells, column_cells}
 use Rattle.matrix.specs.Law.{Rising, stop, more}
 
 up_from : {lo hi : ℕ} {cs : List Cell} (l : ℕ) → l ≤ lo → Rising lo hi cs → Rising l hi cs
@@ -192,7 +187,13 @@ module _ (G : AcNetwork Float) (sound : Sound G) (bus_below : (g : ℕ) → g < 
       up-fit 0 (ncon G) (omega arith) (simp numbers (omega arith))
       (up-join
       (up-join
-      (up-join (up-join (up-join (up-join (up-two _ _ _ _ (after (Pbal i) (Qbal i) l l (omega arith))) (simp numbers (omega arith)) (scan pf i)) (simp numbers (omega arith)) (scan qf i)) (simp numbers (omega arith)) (scan pt i)) (simp numbers (omega arith)) (scan qt i))
+      (up-join
+      (up-join
+      (up-join
+      (up-join (up-two _ _ _ _ (after (Pbal i) (Qbal i) l l (omega arith))) (simp numbers (omega arith)) (scan pf i))
+      (simp numbers (omega arith)) (scan qf i))
+      (simp numbers (omega arith)) (scan pt i))
+      (simp numbers (omega arith)) (scan qt i))
       (simp numbers (omega arith))
       (up-when (G.bounded i) (omega arith) (λ p. up-pair _ _ _ _ below)))
       (simp numbers (omega arith)) (cones i))

@@ -1,13 +1,7 @@
 -- A by columns is A by rows, at each column's number. Assumes nothing.
-use Prim.Native.Nat.{ℕ, zero, suc, ◌+◌, ◌<◌}
-use mathlib.Core.Path.{◌≡◌, refl, sym, ap, ◌∙◌}
-use mathlib.Core.Bool.{Bool, true, false, cond}
-use mathlib.Core.List.{List, [], ◌∷◌, ◌++◌, append_assoc}
-use native.Mathlib.Omega.{arith}
+use Rattle.std.proofs.Common.{ℕ, zero, suc, ◌+◌, ◌<◌, ◌≡◌, refl, sym, ap, ◌∙◌, Bool, true, false, cond, List, [], ◌∷◌, ◌++◌, append_assoc, arith, eqb, ltb, Float, eq-eqb, ne_eqb}
+use Rattle.std.specs.Float.Ieee.{ne}
 use native.Mathlib.Decide.{ℕ_discrete}
-use lib.Dec.{eqb, ltb}
-use lib.Ieee.{Float, ne}
-use borrow.Author.Tests.{eq-eqb, ne_eqb}
 use Rattle.lists.specs.UpTo.{up_to, each, when}
 use Rattle.lists.specs.Entries.{Entry, Cell, select}
 use Rattle.lists.proofs.Each.{each_ext}

@@ -1,8 +1,6 @@
 -- A row's terms as joins of single terms. Assumes nothing.
-use Prim.Native.Nat.{ℕ, zero, suc}
-use mathlib.Core.Path.{◌≡◌, refl}
-use mathlib.Core.List.{List, [], ◌∷◌, ◌++◌, append_assoc}
-use lib.Ieee.{Float, neg}
+use Rattle.std.proofs.Common.{ℕ, zero, suc, ◌≡◌, refl, List, [], ◌∷◌, ◌++◌, append_assoc, Float}
+use Rattle.std.specs.Float.Ieee.{neg}
 use Rattle.lists.specs.UpTo.{when}
 use Rattle.records.specs.AcNetwork.{AcNetwork}
 use Rattle.rows.specs.Branch.{branch_at}

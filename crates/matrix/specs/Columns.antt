@@ -1,5 +1,5 @@
 -- A by columns, as code can write it: the cells of each column by ascending row. `Same.matrix-columns` says that it is A by columns.
-use Rattle.std.specs.Prelude.{ℕ, ◌+◌, List, [], ◌∷◌, ◌++◌, eqb, Float}
+use Rattle.std.specs.Prelude.{ℕ, List, [], ◌∷◌, ◌++◌, eqb, Float}
 use Rattle.std.specs.Float.Ieee.{neg, ne}
 use Rattle.lists.specs.UpTo.{each, when}
 use Rattle.lists.specs.Entries.{Cell, cell}

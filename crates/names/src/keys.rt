@@ -1,8 +1,9 @@
 // Names as keys of block, record and place, and back.
+// Kept: a block is a number in what follows, as in numbering::inner::blocks, and columns and rows have a function each, as in numbering::inner.
+// Kept: column_key and row_key are functions: `From` for Key would have to stand in numbering, whose types these are.
 ghost use Rattle.std.specs.Prelude.{◌<◌};
 ghost use Rattle.numbering.specs.Blocks.{key};
 ghost use Rattle.numbering.specs.Numbering.{column_key, row_key, cost_columns, cost_rows, SameKey};
-ghost use Rattle.numbering.specs.declared.RowName.TheVariants.{Wub};
 
 use numbering::inner::blocks;
 use numbering::{ColumnName, Key, RowName};
@@ -54,90 +55,44 @@ pub fn row_key(name: RowName) -> Key
     }
 }
 
-// Kept: a block is a number in what follows, since it is the index of a table of lengths.
-
-// A row of the zero cone.
-fn equality_row(block: usize, item: usize) -> RowName
-    requires { block < (row_key (Wub 0)).block }
-    ensures { SameKey (row_key result) (key block item 0) }
-{
-    if block <= blocks::PBAL {
-        return RowName::Pbal(item);
-    }
-    if block <= blocks::QBAL {
-        return RowName::Qbal(item);
-    }
-    if block <= blocks::OHM_PF {
-        return RowName::OhmPf(item);
-    }
-    if block <= blocks::OHM_QF {
-        return RowName::OhmQf(item);
-    }
-    if block <= blocks::OHM_PT {
-        return RowName::OhmPt(item);
-    }
-    RowName::OhmQt(item)
-}
-
-// The column, and the row, of a record of a block whose records have one each.
-pub(crate) fn plain_column(block: usize, item: usize) -> ColumnName
+// The column, and the row, of record i of a block whose records have one each.
+pub(crate) fn plain_column(block: usize, i: usize) -> ColumnName
     requires { block < cost_columns }
-    ensures { SameKey (column_key result) (key block item 0) }
+    ensures { SameKey (column_key result) (key block i 0) }
 {
-    if block <= blocks::PG {
-        return ColumnName::Pg(item);
-    }
-    if block <= blocks::QG {
-        return ColumnName::Qg(item);
-    }
-    if block <= blocks::W {
-        return ColumnName::W(item);
-    }
-    if block <= blocks::WR {
-        return ColumnName::Wr(item);
-    }
-    if block <= blocks::WI {
-        return ColumnName::Wi(item);
-    }
-    if block <= blocks::PF {
-        return ColumnName::Pf(item);
-    }
-    if block <= blocks::PT {
-        return ColumnName::Pt(item);
-    }
-    if block <= blocks::QF {
-        return ColumnName::Qf(item);
-    }
-    ColumnName::Qt(item)
+    let names = [
+        ColumnName::Pg(i),
+        ColumnName::Qg(i),
+        ColumnName::W(i),
+        ColumnName::Wr(i),
+        ColumnName::Wi(i),
+        ColumnName::Pf(i),
+        ColumnName::Pt(i),
+        ColumnName::Qf(i),
+        ColumnName::Qt(i),
+    ];
+    names[block]
 }
 
-pub(crate) fn plain_row(block: usize, item: usize) -> RowName
+pub(crate) fn plain_row(block: usize, i: usize) -> RowName
     requires { block < cost_rows }
-    ensures { SameKey (row_key result) (key block item 0) }
+    ensures { SameKey (row_key result) (key block i 0) }
 {
-    if block < blocks::WUB {
-        return equality_row(block, item);
-    }
-    if block <= blocks::WUB {
-        return RowName::Wub(item);
-    }
-    if block <= blocks::WLB {
-        return RowName::Wlb(item);
-    }
-    if block <= blocks::PGUB {
-        return RowName::Pgub(item);
-    }
-    if block <= blocks::PGLB {
-        return RowName::Pglb(item);
-    }
-    if block <= blocks::QGUB {
-        return RowName::Qgub(item);
-    }
-    if block <= blocks::QGLB {
-        return RowName::Qglb(item);
-    }
-    if block <= blocks::ANGUB {
-        return RowName::Angub(item);
-    }
-    RowName::Anglb(item)
+    let names = [
+        RowName::Pbal(i),
+        RowName::Qbal(i),
+        RowName::OhmPf(i),
+        RowName::OhmQf(i),
+        RowName::OhmPt(i),
+        RowName::OhmQt(i),
+        RowName::Wub(i),
+        RowName::Wlb(i),
+        RowName::Pgub(i),
+        RowName::Pglb(i),
+        RowName::Qgub(i),
+        RowName::Qglb(i),
+        RowName::Angub(i),
+        RowName::Anglb(i),
+    ];
+    names[block]
 }

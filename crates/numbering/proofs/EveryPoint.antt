@@ -1,12 +1,6 @@
 -- Lists over all points of a numbering, block after block and record after record: what is at every number is what is at every name.
 -- A name that the network has is the one at its number. Assumes nothing.
-use Prim.Native.Nat.{ℕ, zero, suc, ◌+◌, ◌*◌, ◌<◌}
-use mathlib.Core.Path.{◌≡◌, refl, sym, ap, ◌∙◌}
-use mathlib.Core.Bool.{Bool, true, false}
-use mathlib.Core.List.{List, ◌++◌, append_assoc}
-use native.Mathlib.Omega.{arith}
-use native.Mathlib.Nat.{one-mul}
-use lib.ListN.{length}
+use Rattle.std.proofs.Common.{ℕ, zero, suc, ◌+◌, ◌*◌, ◌<◌, ◌≡◌, refl, sym, ap, ◌∙◌, Bool, true, false, List, ◌++◌, append_assoc, arith, one-mul, length}
 use Rattle.lists.specs.UpTo.{up_to, each, when, bit}
 use Rattle.lists.proofs.Each.{each_ext, each-split}
 use Rattle.records.specs.AcNetwork.{AcNetwork}

@@ -1,9 +1,5 @@
 -- The layout of accepted records: how it comes about, and what it counts. Assumes nothing.
-use Prim.Native.Nat.{ℕ, ◌+◌, ◌≤◌}
-use mathlib.Core.Path.{◌≡◌, refl, sym, ap, ◌∙◌}
-use mathlib.Core.Bool.{true}
-use mathlib.Core.List.{List}
-use native.Mathlib.Omega.{arith}
+use Rattle.std.proofs.Common.{ℕ, ◌+◌, ◌≤◌, ◌≡◌, refl, sym, ap, ◌∙◌, true, List, arith}
 use Rattle.lists.specs.UpTo.{sum, count}
 use Rattle.records.specs.Network.{network_of, Accepted}
 use Rattle.numbering.specs.Numbering.{limits, curves, nvar, ncon, column_counted, row_counted, column_number, row_number}
@@ -15,7 +11,8 @@ use Rattle.numbering.specs.declared.ColumnName.TheVariants.{Pg, CostOf}
 use Rattle.numbering.specs.declared.RowName.{RowName}
 use Rattle.numbering.specs.declared.RowName.TheVariants.{Segment, Thermal}
 use Rattle.numbering.proofs.Layouts.{accepted-range}
-use Rattle.numbering.proofs.Numbers.{column-number, row_number_lem, nvar-number, ncon-number, counted-columns, counted-rows, layout-column, layout_row_lem, layout-nvar, layout-ncon, numbers-few}
+use Rattle.numbering.proofs.Numbers.{column-number, row_number_lem, nvar-number, ncon-number, counted-columns, counted-rows, layout-column}
+use Rattle.numbering.proofs.Numbers.{layout_row_lem, layout-nvar, layout-ncon, numbers-few}
 
 pub laid : (n m k s : ℕ) (b : List ℕ) {l : SocWrLayout} → Accepted n m k s b → l ≡ layout_of (network_of n m k s b) → Laid l b
 laid n m k s b a e = rw e (record { accepted = a; range = accepted-range n m k s b a; is = refl })

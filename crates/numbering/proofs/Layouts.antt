@@ -1,11 +1,5 @@
 -- Which layouts are in range, and what the layout of a network gives of its numbering. Assumes nothing.
-use Prim.Native.Nat.{ℕ, ◌+◌, ◌<◌}
-use mathlib.Core.Path.{◌≡◌, refl}
-use mathlib.Core.Bool.{Bool, true}
-use mathlib.Core.List.{List}
-use native.Mathlib.Omega.{arith}
-use borrow.Author.Tests.{leb-true, le-leb}
-use lib.Ieee.{Float}
+use Rattle.std.proofs.Common.{ℕ, ◌+◌, ◌<◌, ◌≡◌, refl, Bool, true, List, arith, leb-true, le-leb, Float}
 use Rattle.lists.specs.UpTo.{sum, bit, count}
 use Rattle.lists.proofs.Sums.{count-le, sum-next, sum_mono}
 use Rattle.refusals.specs.Refusals.{refuse_unless, ◌or_else◌, passed}

@@ -1,15 +1,12 @@
 -- At each point exactly one name stands, the one that is answered for it. Assumes nothing.
-use Prim.Native.Nat.{ℕ, zero, suc, ◌+◌, ◌*◌, ◌<◌, ◌≤◌}
-use mathlib.Core.Path.{◌≡◌, refl, sym, ap, ◌∙◌}
-use mathlib.Core.List.{List, [], ◌∷◌, ◌++◌}
-use native.Mathlib.Omega.{arith}
-use native.Mathlib.Nat.{zero-add, add-zero}
-use lib.ListN.{get_or, replicate}
+use Rattle.std.proofs.Common.{ℕ, zero, suc, ◌+◌, ◌*◌, ◌<◌, ◌≤◌, ◌≡◌, refl, sym, ap, ◌∙◌, List, [], ◌∷◌, ◌++◌, arith, zero-add, add-zero, get_or, replicate}
 use Rattle.lists.specs.UpTo.{bit, sum}
 use Rattle.lists.proofs.Sums.{bit_le}
 use Rattle.records.specs.AcNetwork.{AcNetwork}
 use Rattle.numbering.specs.Blocks.{Block, points, block_at, key, Valid, key_at}
-use Rattle.numbering.specs.Numbering.{SameKey, column_table, column_key, column_names, column_of, column_blocks, column_number, column_at, ColumnStands, nvar, row_table, row_key, row_names, row_of, row_blocks, row_number, row_at, RowStands, ncon, cone_lengths, added}
+use Rattle.numbering.specs.Numbering.{SameKey, column_table, column_key, column_names, column_of, column_blocks, column_number, column_at}
+use Rattle.numbering.specs.Numbering.{ColumnStands, nvar, row_table, row_key, row_names, row_of, row_blocks, row_number, row_at, RowStands, ncon}
+use Rattle.numbering.specs.Numbering.{cone_lengths, added}
 use Rattle.numbering.specs.declared.Key.{Key}
 use Rattle.numbering.specs.declared.ColumnName.{ColumnName}
 use Rattle.numbering.specs.declared.ColumnName.TheVariants.{Pg, Qg, W, Wr, Wi, Pf, Pt, Qf, Qt, CostOf}
@@ -89,8 +86,37 @@ added-replicate (suc n) w = omega (arith, added-replicate n w)
 module _ {A : Type 0} (G : AcNetwork A) where
   row_named : (i q : ℕ) → Named row_key i q (row_blocks G) (row_names i q) 0
   unfolding row_blocks row_table
-  row_named i q =
-      (one 0 i q, (one 1 i q, (one 2 i q, (one 3 i q, (one 4 i q, (one 5 i q, (one 6 i q, (one 7 i q, (one 8 i q, (one 9 i q, (one 10 i q, (one 11 i q, (one 12 i q, (one 13 i q, (λ h. refl, (λ h. refl, (λ h. refl, tt)))))))))))))))))
+  row_named i q = (
+    one 0 i q,
+    (
+      one 1 i q,
+      (
+        one 2 i q,
+        (
+          one 3 i q,
+          (
+            one 4 i q,
+            (
+              one 5 i q,
+              (
+                one 6 i q,
+                (
+                  one 7 i q,
+                  (
+                    one 8 i q,
+                    (
+                      one 9 i q,
+                      (one 10 i q, (one 11 i q, (one 12 i q, (one 13 i q, (λ h. refl, (λ h. refl, (λ h. refl, tt))))))),
+                    ),
+                  ),
+                ),
+              ),
+            ),
+          ),
+        ),
+      ),
+    ),
+  )
 
   pub row-key : (x : Key) → Valid (row_blocks G) x → row_key (row_of x) ≡ x
   row-key x v =
@@ -110,8 +136,34 @@ module _ {A : Type 0} (G : AcNetwork A) where
 
   column-named : (i q : ℕ) → Named column_key i q (column_blocks G) (column_names i) 0
   unfolding column_blocks column_table
-  column-named i q =
-      (one 0 i q, (one 1 i q, (one 2 i q, (one 3 i q, (one 4 i q, (one 5 i q, (one 6 i q, (one 7 i q, (one 8 i q, (only 9 i q (1 * bit (G.piecewise i)) (omega (arith, bit_le (G.piecewise i))), tt))))))))))
+  column-named i q = (
+    one 0 i q,
+    (
+      one 1 i q,
+      (
+        one 2 i q,
+        (
+          one 3 i q,
+          (
+            one 4 i q,
+            (
+              one 5 i q,
+              (
+                one 6 i q,
+                (
+                  one 7 i q,
+                  (
+                    one 8 i q,
+                    (only 9 i q (1 * bit (G.piecewise i)) (omega (arith, bit_le (G.piecewise i))), tt),
+                  ),
+                ),
+              ),
+            ),
+          ),
+        ),
+      ),
+    ),
+  )
 
   pub column-key : (x : Key) → Valid (column_blocks G) x → column_key (column_of x) ≡ x
   column-key x v =

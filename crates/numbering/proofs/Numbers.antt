@@ -1,13 +1,12 @@
 -- Laws of the numbering, for all crates above: the number of each kind of name; every number below the end; layout and network agree.
 -- A number is the sum of the blocks before its own, so each is a sum of counts: the formulas of the Rust's `SocWrLayout`. Assumes nothing.
-use Prim.Native.Nat.{ℕ, ◌+◌, ◌*◌, ◌≤◌, ◌<◌}
-use mathlib.Core.Path.{◌≡◌, refl, ap}
-use mathlib.Core.Bool.{true, false≢true}
-use native.Mathlib.Omega.{arith}
+use Rattle.std.proofs.Common.{ℕ, ◌+◌, ◌*◌, ◌≤◌, ◌<◌, ◌≡◌, refl, ap, true, arith}
+use Rattle.std.proofs.lemmas.Bool.{false≢true}
 use Rattle.lists.specs.UpTo.{sum, bit, count}
 use Rattle.records.specs.AcNetwork.{AcNetwork}
 use Rattle.numbering.specs.Blocks.{Block, start, size, before, total, Valid, number_of}
-use Rattle.numbering.specs.Numbering.{limits, curves, column_table, row_table, column_blocks, row_blocks, column_key, row_key, column_counted, row_counted, column_number, row_number, nvar, ncon}
+use Rattle.numbering.specs.Numbering.{limits, curves, column_table, row_table, column_blocks, row_blocks, column_key, row_key, column_counted}
+use Rattle.numbering.specs.Numbering.{row_counted, column_number, row_number, nvar, ncon}
 use Rattle.numbering.specs.Layout.{InRange, layout_columns, layout_rows, layout_column, layout_row, nvar_of, ncon_of}
 use Rattle.numbering.specs.declared.SocWrLayout.{SocWrLayout}
 use Rattle.numbering.specs.declared.ColumnName.{ColumnName}

@@ -1,5 +1,5 @@
 -- The layout and the count that the record check's pass gives, where it accepts. Assumes nothing.
-use Rattle.std.proofs.Common.{ℕ, ◌≤◌, ◌<◌, ◌≡◌, sym, ap, ◌∙◌, List, arith, Result, Ok}
+use Rattle.std.proofs.Common.{ℕ, ◌≤◌, ◌<◌, ◌≡◌, refl, sym, ap, ◌∙◌, List, arith, Result, Ok}
 use native.Mathlib.Nat.{min-eq_left}
 use Rattle.refusals.specs.Refusals.{passed, answer_if}
 use Rattle.refusals.specs.declared.Refusal.{Refusal}
@@ -8,12 +8,14 @@ use Rattle.records.specs.Check.{check_of}
 use Rattle.records.specs.Network.{network_of}
 use Rattle.records.proofs.Laws.{accepted}
 use Rattle.numbering.specs.Numbering.{nvar, ncon}
-use Rattle.numbering.specs.Laid.{net_of, Laid}
+use Rattle.numbering.specs.Laid.{Laid}
 use Rattle.numbering.specs.Layout.{layout_of, nvar_of, ncon_of}
 use Rattle.numbering.specs.Lookups.{new_layout, checked_layout}
+use Rattle.numbering.specs.Network.{Opened}
 use Rattle.numbering.specs.Tally.{tally_of}
 use Rattle.numbering.specs.declared.CheckedLayout.{CheckedLayout}
 use Rattle.numbering.specs.declared.SocWrLayout.{SocWrLayout}
+use Rattle.numbering.specs.declared.network.Network.{Network}
 use Rattle.numbering.specs.declared.Tally.TheVariants.{Limited}
 use Rattle.numbering.proofs.Laid.{laid, laid-nvar, laid-ncon}
 use Rattle.numbering.proofs.Layouts.{limited-before}
@@ -29,12 +31,13 @@ module _ (n m k s : ℕ) (b : List ℕ) {r : Result SocWrLayout Refusal} {l : So
   pub new-laid : Laid l b
   new-laid = laid n m k s b (accepted n m k s b new-check) new-layout
 
-  -- so its columns and rows are the network's
-  pub new-nvar : nvar_of l ≡ nvar (network_of n m k s b)
-  new-nvar = laid-nvar l b new-laid ∙ ap (λ (x : SocWrLayout). nvar (net_of x b)) new-layout
+-- the network
+module _ (n m k s : ℕ) (b : List ℕ) {w : Network} (o : Opened n m k s b w) where
+  pub opened-nvar : nvar_of w.layout ≡ nvar (network_of n m k s b)
+  opened-nvar = laid-nvar w.layout w.bytes.now w.laid ∙ rw (o.layout, o.bytes) refl
 
-  pub new-ncon : ncon_of l ≡ ncon (network_of n m k s b)
-  new-ncon = laid-ncon l b new-laid ∙ ap (λ (x : SocWrLayout). ncon (net_of x b)) new-layout
+  pub opened-ncon : ncon_of w.layout ≡ ncon (network_of n m k s b)
+  opened-ncon = laid-ncon w.layout w.bytes.now w.laid ∙ rw (o.layout, o.bytes) refl
 
 -- the layout with the limited branches before branch e
 module _ (n m k s : ℕ) (b : List ℕ) (e : ℕ) {r : Result CheckedLayout Refusal} {x : CheckedLayout} (p : r ≡ answer_if (check_of n m k s b) (checked_layout n m k s b e)) (h : r ≡ Ok x) where

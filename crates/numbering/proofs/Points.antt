@@ -1,16 +1,10 @@
 -- Laws of blocks: each point below the total has one block, one record in it and one place there. Assumes nothing.
-use Prim.Native.Nat.{ℕ, zero, suc, ◌+◌, ◌-◌, ◌<◌, ◌≤◌}
-use mathlib.Core.Path.{◌≡◌, refl, ap, ◌∙◌}
-use mathlib.Core.List.{List, [], ◌∷◌}
-use mathlib.Core.Bool.{Bool, true, false}
-use native.Mathlib.Omega.{arith}
+use Rattle.std.proofs.Common.{ℕ, zero, suc, ◌+◌, ◌-◌, ◌<◌, ◌≤◌, ◌≡◌, refl, ap, ◌∙◌, List, [], ◌∷◌, Bool, true, false, arith, mul-add, mul-one}
+use Rattle.std.proofs.Common.{ltb-true, ltb-false, lt-ltb, le-ltb, length, ltb}
 use native.Mathlib.Decide.{ℕ_discrete}
-use native.Mathlib.Nat.{mul-add, mul-one}
-use borrow.Author.Tests.{ltb-true, ltb-false, lt-ltb, le-ltb}
-use lib.ListN.{length}
-use lib.Dec.{ltb}
 use Rattle.lists.specs.UpTo.{up_to, sum}
-use Rattle.numbering.specs.Blocks.{Block, alike, unlike, records, points, start, size, block_at, before, total, Valid, number_of, KeyStands, placed, pick_place, find, in_block, key_in, key_at}
+use Rattle.numbering.specs.Blocks.{Block, alike, unlike, records, points, start, size, block_at, before, total, Valid, number_of, KeyStands, placed}
+use Rattle.numbering.specs.Blocks.{pick_place, find, in_block, key_in, key_at}
 use Rattle.numbering.specs.declared.Place.{Place}
 use Rattle.numbering.specs.declared.Key.{Key}
 

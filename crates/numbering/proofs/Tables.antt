@@ -1,13 +1,10 @@
 -- The blocks of a network and of a layout one by one, and that they have the same lengths: both come of one table. Assumes nothing.
-use Prim.Native.Nat.{ℕ, ◌*◌, ◌<◌}
-use mathlib.Core.Path.{◌≡◌, refl, sym, ap, ◌∙◌}
-use mathlib.Core.List.{List}
-use native.Mathlib.Omega.{arith}
-use lib.ListN.{length, get_or}
+use Rattle.std.proofs.Common.{ℕ, ◌*◌, ◌<◌, ◌≡◌, refl, sym, ap, ◌∙◌, List, arith, length, get_or}
 use Rattle.lists.specs.UpTo.{bit}
 use Rattle.records.specs.AcNetwork.{AcNetwork}
 use Rattle.numbering.specs.Blocks.{alike, unlike, start, size, block_at, before, total, key, Valid, number_of}
-use Rattle.numbering.specs.Numbering.{column_table, row_table, column_blocks, row_blocks, column_many, row_many, cost_columns, cost_rows, jabr_rows, thermal_rows, column_key, row_key, column_number, row_number, nvar, ncon}
+use Rattle.numbering.specs.Numbering.{column_table, row_table, column_blocks, row_blocks, column_many, row_many, cost_columns, cost_rows, jabr_rows}
+use Rattle.numbering.specs.Numbering.{thermal_rows, column_key, row_key, column_number, row_number, nvar, ncon}
 use Rattle.numbering.specs.Layout.{layout_columns, layout_rows, sizes_of, start_in, nvar_of, ncon_of}
 use Rattle.numbering.specs.Laid.{net_of, Laid}
 use Rattle.numbering.specs.declared.SocWrLayout.{SocWrLayout}

@@ -1,7 +1,5 @@
 -- Laws of tallies, as the loops over records go. Assumes nothing.
-use Prim.Native.Nat.{ℕ, ◌+◌, ◌≤◌, ◌<◌}
-use mathlib.Core.Path.{◌≡◌, refl}
-use mathlib.Core.List.{List}
+use Rattle.std.proofs.Common.{ℕ, ◌+◌, ◌≤◌, ◌<◌, ◌≡◌, refl, List}
 use Rattle.lists.specs.UpTo.{up_to}
 use Rattle.lists.proofs.Sums.{sum-next, sum-later, sum-some}
 use Rattle.numbering.specs.Tally.{points_of, tally_of}

@@ -2,40 +2,25 @@
 ghost use Rattle.std.specs.Prelude.{◌≡◌, ◌+◌, ◌*◌, ◌≤◌, ◌<◌, length, get_or};
 ghost use Rattle.lists.specs.UpTo.{overlay};
 ghost use Rattle.refusals.specs.Refusals.{room_for, answer_if, left_in};
-ghost use Rattle.records.specs.Check.{check_of};
-ghost use Rattle.records.specs.Network.{network_of};
+ghost use Rattle.records.specs.Case.{case_check, case_network};
 ghost use Rattle.numbering.specs.Numbering.{cone_lengths};
 ghost use Rattle.numbering.specs.Layout.{InRange, layout_of, layout_cause};
 ghost use Rattle.numbering.specs.Lookups.{cones_of, cone_count, cones_check};
 
 use crate::SocWrLayout;
+use records::Case;
 use refusals::{Refusal, room_for};
 
-// The length of cone i.
-fn cone_length(l: SocWrLayout, i: usize) -> u32
-    requires { (InRange l) × (i < cone_count l) }
-    ensures { result ≡ get_or (cones_of l) i 0 }
-{
-    if i < 1 {
-        return l.zero_rows();
-    }
-    if i < 2 {
-        return l.nonnegative_rows();
-    }
-    if i - 2 < l.m {
-        return 4;
-    }
-    3
-}
-
 // All lengths, at the front of out.
-fn cones_into(l: SocWrLayout, need: usize, out: &mut [u32])
-    requires { (InRange l) × (need ≡ cone_count l) × (need ≤ length out.old) }
+fn cones_into(l: SocWrLayout, out: &mut [u32])
+    requires { (InRange l) × (cone_count l ≤ length out.old) }
     ensures { out.new ≡ overlay (cones_of l) out.old }
 {
-    for i in 0..need {
-        out[i] = cone_length(l, i);
-    }
+    let threes = 2 + l.m;
+    out[0] = l.zero_rows();
+    out[1] = l.nonnegative_rows();
+    out[2..threes].fill(4);
+    out[threes..threes + 2 * l.t].fill(3);
 }
 
 // The lengths of a layout in range, where there is room for them.
@@ -46,7 +31,7 @@ fn cones_in(l: SocWrLayout, out: &mut [u32]) -> Result<u64, Refusal>
 {
     let need = 2 + l.m + 2 * l.t;
     room_for(need, out.len())?;
-    cones_into(l, need, out);
+    cones_into(l, out);
     Ok(need as u64)
 }
 
@@ -61,17 +46,10 @@ impl SocWrLayout {
     }
 }
 
-// The same on counts and records.
-pub fn cones(
-    n: usize,
-    m: usize,
-    k: usize,
-    s: usize,
-    bytes: &[u8],
-    out: &mut [u32],
-) -> Result<u64, Refusal>
-    ensures value { result ≡ answer_if (cones_check (check_of n m k s bytes.now) (layout_of (network_of n m k s bytes.now)) out.old) (cone_count (layout_of (network_of n m k s bytes.now))) }
-    ensures out_after { out.new ≡ left_in (cones_check (check_of n m k s bytes.now) (layout_of (network_of n m k s bytes.now)) out.old) (cone_lengths (network_of n m k s bytes.now)) out.old }
+// The same on a case.
+pub fn cones(case: Case<'_>, out: &mut [u32]) -> Result<u64, Refusal>
+    ensures value { result ≡ answer_if (cones_check (case_check case.entry) (layout_of (case_network case.entry)) out.old) (cone_count (layout_of (case_network case.entry))) }
+    ensures out_after { out.new ≡ left_in (cones_check (case_check case.entry) (layout_of (case_network case.entry)) out.old) (cone_lengths (case_network case.entry)) out.old }
 {
-    cones_in(SocWrLayout::new(n, m, k, s, bytes)?, out)
+    cones_in(SocWrLayout::new(case)?, out)
 }

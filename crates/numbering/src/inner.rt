@@ -1,5 +1,9 @@
 // The layout's methods that rely on a layout in range: where a block starts, and the number of each kind of name.
 // An index may be the count itself: that number is where the block ends.
+// Kept: each asks `InRange`, as a layout is a plain struct that callers fill and `cause` tests: a type for those in range would be a second layout.
+// Kept: each asks its index's bound (e ≤ self.m and the like) as one clause: a type for an index would be taken apart in each definition.
+// Kept: document 01 has a method for each column and row, each one call with its block's number (why a number: blocks.rt).
+// Kept: columns and rows have a function each; a trait over both would have these functions again, with laws to prove.
 use crate::SocWrLayout;
 
 pub mod blocks;

@@ -1,7 +1,8 @@
 // The layout's methods: each tests the layout handed in, and then the index.
+// Kept: document 01 has a method for each column and row, each one call with its block's number (why a number: inner/blocks.rt).
 ghost use Rattle.std.specs.Prelude.{◌≡◌, ◌<◌};
 ghost use Rattle.refusals.specs.Refusals.{answer_if};
-ghost use Rattle.records.specs.Check.{check_of};
+ghost use Rattle.records.specs.Case.{case_check};
 ghost use Rattle.numbering.specs.Blocks.{key};
 ghost use Rattle.numbering.specs.Numbering.{cost_columns, cost_rows};
 ghost use Rattle.numbering.specs.Layout.{layout_cause, layout_columns, layout_rows, layout_row, n_eq_of, n_ineq_of, nvar_of, ncon_of};
@@ -11,26 +12,20 @@ ghost use Rattle.numbering.specs.declared.RowName.TheVariants.{Pbal, Qbal, OhmPf
 
 use crate::inner::blocks;
 use crate::{CheckedLayout, SocWrLayout};
+use records::Case;
 use refusals::{Refusal, refuse_unless};
 
 // The record check and the layout by one pass over the records, with the limited branches before branch e.
-pub fn check_layout(
-    n: usize,
-    m: usize,
-    k: usize,
-    s: usize,
-    bytes: &[u8],
-    e: usize,
-) -> Result<CheckedLayout, Refusal>
-    ensures { result ≡ answer_if (check_of n m k s bytes.now) (checked_layout n m k s bytes.now e) }
+pub fn check_layout(case: Case<'_>, e: usize) -> Result<CheckedLayout, Refusal>
+    ensures { result ≡ answer_if (case_check case.entry) (checked_layout case.entry.n case.entry.m case.entry.k case.entry.s case.entry.bytes.now e) }
 {
-    let counted = record_check::check_counting(n, m, k, s, bytes, e)?;
+    let counted = record_check::check_counting(case, e)?;
     Ok(CheckedLayout {
         layout: SocWrLayout {
-            n,
-            m,
-            k,
-            s,
+            n: case.n,
+            m: case.m,
+            k: case.k,
+            s: case.s,
             t: counted.t,
             cost_columns: counted.cost_columns,
         },
@@ -39,11 +34,11 @@ pub fn check_layout(
 }
 
 impl SocWrLayout {
-    // The layout of a network, made from its counts and records.
-    pub fn new(n: usize, m: usize, k: usize, s: usize, bytes: &[u8]) -> Result<SocWrLayout, Refusal>
-        ensures { result ≡ new_layout n m k s bytes.now }
+    // The layout of a case.
+    pub fn new(case: Case<'_>) -> Result<SocWrLayout, Refusal>
+        ensures { result ≡ new_layout case.entry.n case.entry.m case.entry.k case.entry.s case.entry.bytes.now }
     {
-        Ok(check_layout(n, m, k, s, bytes, 0)?.layout)
+        Ok(check_layout(case, 0)?.layout)
     }
 
     // 1: the first of n, m, k, S, T, cost columns that is too large.
@@ -55,6 +50,7 @@ impl SocWrLayout {
         refuse_unless(self.cost_columns <= self.k, Refusal::CountTooLarge(5))
     }
 
+    // Kept: columns and rows have a function each; a trait over both would have these functions again, with laws to prove.
     // A column of a block whose records have one column each.
     fn plain_column(self, block: usize, i: usize) -> Result<u32, Refusal>
         requires { block < cost_columns }

@@ -1,5 +1,5 @@
 -- `operand_selector` of sens/conic.rs: one row of [x, z] of weight 1.0 for each item, and the sign.
-use Rattle.std.specs.Prelude.{ℕ, List, Float}
+use Rattle.std.specs.Prelude.{ℕ, List, length, Float}
 use Rattle.lists.specs.UpTo.{listed}
 use Rattle.refusals.specs.Refusals.{◌or_else◌, refuse_unless, Checked}
 use Rattle.refusals.specs.declared.Refusal.TheVariants.{NotInSocWr}
@@ -18,6 +18,7 @@ use Rattle.interface.specs.declared.VoltageKind.TheVariants.{Magnitude, Angle, S
 use Rattle.interface.specs.declared.Operand.{Operand}
 use Rattle.interface.specs.declared.Operand.TheVariants.{Price, Dispatch, Flow, Voltage}
 use Rattle.interface.specs.Selectors.{selector_room}
+use Rattle.interface.specs.declared.SelectorLists.{SelectorLists}
 use Rattle.elements.specs.Lengths.{has_operand, operand_len}
 use Rattle.elements.specs.Balance.{price_row}
 use Rattle.kkt.specs.Kkt.{kkt_row}
@@ -69,3 +70,10 @@ operand_cause n m k o starts rows weights elements =
 
 abbrev pub operand_check : (n m k s : ℕ) → List ℕ → Operand → (starts rows weights elements : ℕ) → Checked
 operand_check n m k s b o starts rows weights elements = check_of n m k s b or_else operand_cause n m k o starts rows weights elements
+
+-- the same of lists as they are lent
+abbrev pub lists_cause : (n m k : ℕ) → Operand → SelectorLists → Checked
+lists_cause n m k o t = operand_cause n m k o (length t.starts.now) (length t.rows.now) (length t.weights.now) (length t.elements.now)
+
+abbrev pub lists_check : (n m k s : ℕ) → List ℕ → Operand → SelectorLists → Checked
+lists_check n m k s b o t = check_of n m k s b or_else lists_cause n m k o t

@@ -1,4 +1,5 @@
 // Each stores one float in the column.
+// Kept: a layout in range, and i < l.n or g < l.k, no network: no function here reads a record, and a network would ask for accepted ones.
 ghost use Rattle.std.specs.Prelude.{◌≡◌, [], ◌∷◌, ◌+◌, ◌<◌, get_or};
 ghost use Rattle.std.specs.Float.{binary64, nan};
 ghost use Rattle.std.specs.Float.Ieee.{mul};

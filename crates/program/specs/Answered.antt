@@ -2,6 +2,8 @@
 use Rattle.std.specs.Prelude.{ℕ, ◌≡◌, List, map, length, Float}
 use Rattle.lists.specs.Entries.{Cell, cell_row, cell_val}
 use Rattle.lists.specs.Compressed.{joined, starts_from}
+use Rattle.cells.specs.declared.Compressed.{Compressed}
+use Rattle.cells.specs.Lent.{SameLists}
 use Rattle.refusals.specs.Refusals.{◌or_else◌, room_for, answer_if, left_in, Checked, Written}
 
 -- one list of floats; 10: "an output slice too short"
@@ -26,3 +28,8 @@ pub record ColumnsWritten (check : Checked) (cs : List (List Cell)) (ss₀ rs₀
   pub starts : ss ≡ left_in (columns_check check cs ss₀ rs₀ vs₀) (starts_from 0 cs) ss₀
   pub rows : rs ≡ left_in (columns_check check cs ss₀ rs₀ vs₀) (map cell_row (joined cs)) rs₀
   pub values : vs ≡ left_in (columns_check check cs ss₀ rs₀ vs₀) (map cell_val (joined cs)) vs₀
+
+-- the same over lists that are lent as one, which stay the same lists
+pub record ListsWritten (check : Checked) (cs : List (List Cell)) (t t' : Compressed) (r : Written) : Type 0 where
+  pub lent : SameLists t t'
+  pub written : ColumnsWritten check cs t.starts.now t.rows.now t.values.now t'.starts.now t'.rows.now t'.values.now r

@@ -1,87 +1,48 @@
 // P, q, A and b of the SOCWR program (the Rust's `ProgramBuilder` and `assemble_conic_opf`), from counts and records.
 #![tactic(auto)]
 
-ghost use Rattle.records.specs.Check.{check_of};
-ghost use Rattle.records.specs.Network.{network_of};
+ghost use Rattle.records.specs.Case.{case_check, case_network};
 ghost use Rattle.rows.specs.Program.{linear, matrix};
 ghost use Rattle.matrix.specs.Lists.{right_side, quadratic_matrix};
-ghost use Rattle.program.specs.Answered.{FloatsWritten, ColumnsWritten};
+ghost use Rattle.program.specs.Answered.{FloatsWritten, ListsWritten};
 
-use numbering::SocWrLayout;
+use cells::Compressed;
+use numbering::Network;
+use records::Case;
 use refusals::Refusal;
 
 mod sized;
 
-// Kept: P and A, and b and q, are an entry each: each has its own definition and its own writer, and their bodies are a line.
+// Kept: P and A, and b and q, are an entry each: each has its own definition and its own writer, and their bodies are two lines.
 
 // b: ncon floats.
-pub fn program_b(
-    n: usize,
-    m: usize,
-    k: usize,
-    s: usize,
-    bytes: &[u8],
-    b: &mut [f64],
-) -> Result<u64, Refusal>
-    ensures { FloatsWritten (check_of n m k s bytes.now) (right_side (network_of n m k s bytes.now)) b.old b.new result }
+pub fn program_b(case: Case<'_>, b: &mut [f64]) -> Result<u64, Refusal>
+    ensures { FloatsWritten (case_check case.entry) (right_side (case_network case.entry)) b.old b.new result }
 {
-    sized::put_b(b, SocWrLayout::new(n, m, k, s, bytes)?, bytes)
+    let net = Network::new(case)?;
+    sized::put_b(b, &net)
 }
 
 // q: nvar floats.
-pub fn program_q(
-    n: usize,
-    m: usize,
-    k: usize,
-    s: usize,
-    bytes: &[u8],
-    q: &mut [f64],
-) -> Result<u64, Refusal>
-    ensures { FloatsWritten (check_of n m k s bytes.now) (linear (network_of n m k s bytes.now)) q.old q.new result }
+pub fn program_q(case: Case<'_>, q: &mut [f64]) -> Result<u64, Refusal>
+    ensures { FloatsWritten (case_check case.entry) (linear (case_network case.entry)) q.old q.new result }
 {
-    sized::put_q(q, SocWrLayout::new(n, m, k, s, bytes)?, bytes)
+    let net = Network::new(case)?;
+    sized::put_q(q, &net)
 }
 
 // P by compressed columns: nvar + 1 starts, and the rows and values of its entries.
-pub fn program_p(
-    n: usize,
-    m: usize,
-    k: usize,
-    s: usize,
-    bytes: &[u8],
-    starts: &mut [u32],
-    rows: &mut [u32],
-    values: &mut [f64],
-) -> Result<u64, Refusal>
-    ensures { ColumnsWritten (check_of n m k s bytes.now) (quadratic_matrix (network_of n m k s bytes.now)) starts.old rows.old values.old starts.new rows.new values.new result }
+pub fn program_p(case: Case<'_>, lists: &mut Compressed<'_>) -> Result<u64, Refusal>
+    ensures { ListsWritten (case_check case.entry) (quadratic_matrix (case_network case.entry)) lists.old lists.new result }
 {
-    sized::put_p(
-        starts,
-        rows,
-        values,
-        SocWrLayout::new(n, m, k, s, bytes)?,
-        bytes,
-    )
+    let net = Network::new(case)?;
+    sized::put_p(lists, &net)
 }
 
 // A by compressed columns: nvar + 1 starts, and the rows and values of its entries, rows ascending in a column.
-pub fn program_a(
-    n: usize,
-    m: usize,
-    k: usize,
-    s: usize,
-    bytes: &[u8],
-    starts: &mut [u32],
-    rows: &mut [u32],
-    values: &mut [f64],
-) -> Result<u64, Refusal>
-    ensures { ColumnsWritten (check_of n m k s bytes.now) (matrix (network_of n m k s bytes.now)) starts.old rows.old values.old starts.new rows.new values.new result }
+pub fn program_a(case: Case<'_>, lists: &mut Compressed<'_>) -> Result<u64, Refusal>
+    ensures { ListsWritten (case_check case.entry) (matrix (case_network case.entry)) lists.old lists.new result }
 {
-    sized::put_a(
-        starts,
-        rows,
-        values,
-        SocWrLayout::new(n, m, k, s, bytes)?,
-        bytes,
-    )
+    let net = Network::new(case)?;
+    sized::put_a(lists, &net)
 }

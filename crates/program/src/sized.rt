@@ -1,53 +1,54 @@
-// P, q, A and b into lent lists, from the layout of accepted records.
-ghost use Rattle.std.specs.Prelude.{◌≡◌, ◌+◌, ◌≤◌, length};
-ghost use Rattle.refusals.specs.Refusals.{passed};
-ghost use Rattle.numbering.specs.Layout.{InRange, nvar_of};
-ghost use Rattle.numbering.specs.Laid.{net_of, Laid};
+// P, q, A and b of an accepted network, into lent lists.
+ghost use Rattle.std.specs.Prelude.{◌≡◌, length};
+ghost use Rattle.refusals.specs.Refusals.{◌or_else◌, room_for as room_of, passed};
+ghost use Rattle.numbering.specs.Layout.{InRange};
+ghost use Rattle.numbering.specs.Network.{grid};
 ghost use Rattle.rows.specs.Program.{linear, matrix};
 ghost use Rattle.matrix.specs.Lists.{right_side, quadratic_matrix};
 ghost use Rattle.assembly.specs.Parts.{most_a};
-ghost use Rattle.program.specs.Answered.{FloatsWritten, ColumnsWritten};
+ghost use Rattle.program.specs.Answered.{FloatsWritten, ListsWritten};
 
 use assembly::inner::{count_a, fill_a};
-use numbering::SocWrLayout;
+use cells::Compressed;
+use numbering::{Network, SocWrLayout};
+use quadratic::inner::linear::fill_q;
+use quadratic::inner::{count_p, fill_p};
 use refusals::{Refusal, room_for};
+use sides::inner::fill_b;
 
-pub(crate) fn put_b(b: &mut [f64], l: SocWrLayout, bytes: &[u8]) -> Result<u64, Refusal>
-    requires { Laid l bytes.now }
-    ensures { FloatsWritten passed (right_side (net_of l bytes.now)) b.old b.new result }
+pub(crate) fn put_b(b: &mut [f64], net: &Network<'_>) -> Result<u64, Refusal>
+    ensures { FloatsWritten passed (right_side (grid net.now)) b.old b.new result }
 {
-    let need = l.row_count() as usize;
+    let need = net.layout.row_count() as usize;
     room_for(need, b.len())?;
-    sides::inner::fill_b(b, l, bytes);
+    fill_b(b, net);
     Ok(need as u64)
 }
 
-pub(crate) fn put_q(q: &mut [f64], l: SocWrLayout, bytes: &[u8]) -> Result<u64, Refusal>
-    requires { Laid l bytes.now }
-    ensures { FloatsWritten passed (linear (net_of l bytes.now)) q.old q.new result }
+// Kept: the likeness with put_b is a test and a call; joint, the length and the writer would be parameters.
+pub(crate) fn put_q(q: &mut [f64], net: &Network<'_>) -> Result<u64, Refusal>
+    ensures { FloatsWritten passed (linear (grid net.now)) q.old q.new result }
 {
-    let need = l.column_count() as usize;
+    let need = net.layout.column_count() as usize;
     room_for(need, q.len())?;
-    quadratic::inner::linear::fill_q(q, l, bytes);
+    fill_q(q, net);
     Ok(need as u64)
 }
 
-pub(crate) fn put_p(
-    starts: &mut [u32],
-    rows: &mut [u32],
-    values: &mut [f64],
-    l: SocWrLayout,
-    bytes: &[u8],
-) -> Result<u64, Refusal>
-    requires { Laid l bytes.now }
-    ensures { ColumnsWritten passed (quadratic_matrix (net_of l bytes.now)) starts.old rows.old values.old starts.new rows.new values.new result }
+// Whether the lists of rows and of values have room for so many entries.
+fn entries_room(count: usize, lists: &Compressed<'_>) -> Result<(), Refusal>
+    ensures { result ≡ room_of count (length lists.now.rows.now) or_else room_of count (length lists.now.values.now) }
 {
-    let need = l.column_count() as usize + 1;
-    room_for(need, starts.len())?;
-    let count = quadratic::inner::count_p(l, bytes);
-    room_for(count, rows.len())?;
-    room_for(count, values.len())?;
-    let written = quadratic::inner::fill_p(starts, rows, values, l, bytes);
+    room_for(count, lists.rows.len())?;
+    room_for(count, lists.values.len())
+}
+
+pub(crate) fn put_p(lists: &mut Compressed<'_>, net: &Network<'_>) -> Result<u64, Refusal>
+    ensures { ListsWritten passed (quadratic_matrix (grid net.now)) lists.old lists.new result }
+{
+    room_for(net.layout.column_count() as usize + 1, lists.starts.len())?;
+    entries_room(count_p(net), lists)?;
+    let written = fill_p(lists, net);
     Ok(written as u64)
 }
 
@@ -58,55 +59,14 @@ fn most(l: SocWrLayout) -> usize
     4 * l.n + 34 * l.m + 6 * l.k + 2 * l.s
 }
 
-fn put_counted(
-    starts: &mut [u32],
-    rows: &mut [u32],
-    values: &mut [f64],
-    l: SocWrLayout,
-    bytes: &[u8],
-) -> Result<u64, Refusal>
-    requires laid { Laid l bytes.now }
-    requires l_in_bounds { nvar_of l + 1 ≤ length starts.old }
-    ensures { ColumnsWritten passed (matrix (net_of l bytes.now)) starts.old rows.old values.old starts.new rows.new values.new result }
+// Counted before it is written, unless the lists have room for the most entries that A can have.
+pub(crate) fn put_a(lists: &mut Compressed<'_>, net: &Network<'_>) -> Result<u64, Refusal>
+    ensures { ListsWritten passed (matrix (grid net.now)) lists.old lists.new result }
 {
-    let count = count_a(l, bytes);
-    room_for(count, rows.len())?;
-    room_for(count, values.len())?;
-    let written = fill_a(starts, rows, values, l, bytes);
-    Ok(written as u64)
-}
-
-// Counted before it is written, unless the lists hold the most entries that A can have.
-fn put_sized(
-    starts: &mut [u32],
-    rows: &mut [u32],
-    values: &mut [f64],
-    l: SocWrLayout,
-    bytes: &[u8],
-) -> Result<u64, Refusal>
-    requires laid { Laid l bytes.now }
-    requires l_in_bounds { nvar_of l + 1 ≤ length starts.old }
-    ensures { ColumnsWritten passed (matrix (net_of l bytes.now)) starts.old rows.old values.old starts.new rows.new values.new result }
-{
-    let most = most(l);
-    if rows.len() < most || values.len() < most {
-        return put_counted(starts, rows, values, l, bytes);
+    room_for(net.layout.column_count() as usize + 1, lists.starts.len())?;
+    if entries_room(most(net.layout), lists).is_err() {
+        entries_room(count_a(net), lists)?;
     }
-    let written = fill_a(starts, rows, values, l, bytes);
+    let written = fill_a(lists, net);
     Ok(written as u64)
-}
-
-pub(crate) fn put_a(
-    starts: &mut [u32],
-    rows: &mut [u32],
-    values: &mut [f64],
-    l: SocWrLayout,
-    bytes: &[u8],
-) -> Result<u64, Refusal>
-    requires { Laid l bytes.now }
-    ensures { ColumnsWritten passed (matrix (net_of l bytes.now)) starts.old rows.old values.old starts.new rows.new values.new result }
-{
-    let need = l.column_count() as usize + 1;
-    room_for(need, starts.len())?;
-    put_sized(starts, rows, values, l, bytes)
 }

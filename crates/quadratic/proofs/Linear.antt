@@ -1,7 +1,8 @@
 -- q is zeros with the costs written at pg and ones at the cost columns: by its name a column is in one of these two runs, or its element is zero.
 -- Assumes nothing.
+use Rattle.std.specs.Float.{binary64}
+use Rattle.std.specs.Float.Ieee.{add}
 use Rattle.std.proofs.Common.{ℕ, ◌+◌, ◌≤◌, ◌<◌, ◌≡◌, refl, sym, ap, ◌∙◌, ◌⊎◌, inl, inr, ⊎_elim, List, [], ◌∷◌, arith, length, Float}
-use lib.Ieee.{binary64, add}
 use Rattle.lists.specs.UpTo.{listed, overlay, bit, sum}
 use Rattle.lists.proofs.Each.{each_ext, each-sums}
 use Rattle.lists.proofs.Sums.{sum_room}

@@ -1,6 +1,6 @@
 -- P by columns, in the parts in which the code writes it. Assumes nothing.
+use Rattle.std.specs.Float.Ieee.{ne}
 use Rattle.std.proofs.Common.{ℕ, ◌+◌, ◌-◌, ◌<◌, ◌≡◌, sym, ap, ◌∙◌, List, [], ◌∷◌, ◌++◌, append-nil, arith, eqb, length, Float, eq-eqb, ne_eqb}
-use lib.Ieee.{ne}
 use Rattle.lists.specs.UpTo.{each, listed, when}
 use Rattle.lists.specs.Entries.{Cell, entry, select}
 use Rattle.lists.specs.Compressed.{joined, starts_from}

@@ -12,11 +12,14 @@ use Rattle.ring.specs.Ops.{rounded}
 use Rattle.rows.specs.Rows.{zero64}
 use Rattle.matrix.specs.Columns.{nonzero_cell}
 
+-- twice the quadratic cost of generator g
 abbrev pub quad_value : SocWrLayout → List ℕ → ℕ → Float
 quad_value l bytes g = mul binary64 rounded.two ((net_of l bytes).cq g)
 
+-- the column of pg g
 unfoldable pub quad_cells : SocWrLayout → List ℕ → ℕ → List Cell
 quad_cells l bytes g = nonzero_cell (layout_column l (Pg g)) (quad_value l bytes g)
 
+-- how many of the first n generators have an entry
 unfoldable pub quad_count : SocWrLayout → List ℕ → ℕ → ℕ
 quad_count l bytes n = sum n (λ g. bit (ne (quad_value l bytes g) zero64))

@@ -1,7 +1,8 @@
 -- Two halves of a list, each negated from a part of z: what `inner::fill::negate_both` leaves. Assumes nothing.
+use Rattle.std.specs.Float.{nan}
+use Rattle.std.specs.Float.Ieee.{neg}
 use Rattle.std.proofs.Common.{ℕ, ◌+◌, ◌-◌, ◌≤◌, ◌≡◌, ◌∙◌, ap, List, [], ◌∷◌, ◌++◌, append_assoc, arith, length, take, drop, get_or, length-append, length-take, length-drop, length-take-le}
 use Rattle.std.proofs.Common.{take_at, drop_at, drop-drop, get_or-take, get_or-drop, Float}
-use lib.Ieee.{nan, neg}
 use Rattle.lists.specs.UpTo.{listed, overlay}
 use Rattle.lists.proofs.Each.{each_ext}
 use Rattle.lists.proofs.Listed.{listed-length}

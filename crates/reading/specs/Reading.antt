@@ -58,6 +58,10 @@ module _ (G : AcNetwork Float) where
   objective_of NetworkGeneratorCost x solver = total_cost G x
   objective_of Other x solver = solver
 
+  -- 6 of a z of zs floats, then 10 "an output slice too short", of the length needed, 2n
+  abbrev pub prices_cause : (zs room : ℕ) → Checked
+  prices_cause zs room = z_cause G zs or_else room_for (G.n + G.n) room
+
 -- "A refused reading hands back the empty part"
 unfoldable pub part_if : Checked → List Float → List Float
 part_if (Ok u) xs = xs
@@ -86,10 +90,8 @@ module _ (n m k s : ℕ) (b : List ℕ) where
   unfoldable pub part_of : List Float → SolutionList → List Float
   part_of x p = part_if (part_check x) (part_list (network_of n m k s b) x p)
 
-  -- 10: "an output slice too short", of the length needed, 2n
   unfoldable pub prices_check : List Float → ℕ → Checked
-  prices_check z room =
-      check_of n m k s b or_else z_cause (network_of n m k s b) (length z) or_else room_for (n + n) room
+  prices_check z room = check_of n m k s b or_else prices_cause (network_of n m k s b) (length z) room
 
   unfoldable pub objective_answer : PreparedObjective → List Float → Float → Scalar
   objective_answer objective x solver = answer_if (part_check x) (objective_of (network_of n m k s b) objective x solver)

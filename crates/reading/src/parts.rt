@@ -6,6 +6,7 @@ ghost use Rattle.reading.specs.Reading.{part_column, part_count, part_of};
 use crate::SolutionList;
 use crate::checks::check_part;
 use numbering::SocWrLayout;
+use records::Case;
 
 // The first column of a list, and how many it has.
 fn start_of(l: SocWrLayout, part: SolutionList) -> u32
@@ -42,20 +43,13 @@ fn count_of(l: SocWrLayout, part: SolutionList) -> usize
 }
 
 // The list as a part of x; the empty part where `part_check` refuses.
-pub fn part<'a>(
-    n: usize,
-    m: usize,
-    k: usize,
-    s: usize,
-    bytes: &[u8],
-    x: &'a [f64],
-    part: SolutionList,
-) -> &'a [f64]
-    ensures { result.now ≡ part_of n m k s bytes.now x.now part }
+pub fn part<'a>(case: Case<'_>, x: &'a [f64], part: SolutionList) -> &'a [f64]
+    ensures { result.now ≡ part_of case.entry.n case.entry.m case.entry.k case.entry.s case.entry.bytes.now x.now part }
 {
-    let Ok(l) = check_part(n, m, k, s, bytes, x) else {
+    let Ok(net) = check_part(case, x) else {
         return &x[..0];
     };
+    let l = net.layout;
     let start = start_of(l, part) as usize;
     let end = start + count_of(l, part);
     &x[start..end]

@@ -3,11 +3,12 @@
 
 ghost use Rattle.std.specs.Prelude.{◌≡◌, ◌+◌, ◌*◌, ◌≤◌, ◌<◌, min, length, IfOk};
 ghost use Rattle.refusals.specs.Refusals.{◌or_else◌, answer_if};
-ghost use Rattle.records.specs.Check.{bus_cause, branch_cause, gen_cause, segment_cause, first_cause, record_causes, count_sum, count_cause, length_cause, sum_cause, check_of};
+ghost use Rattle.records.specs.Check.{bus_cause, branch_cause, gen_cause, segment_cause, first_cause, record_causes, count_sum, count_cause, length_cause, sum_cause};
+ghost use Rattle.records.specs.Case.{case_check};
 ghost use Rattle.record_check.specs.Counts.{limited_in, piecewise_in, costs_in, counted_in};
 
-use lists::inner::bit;
 use record_causes::inner::{branch_cause, bus_cause, gen_cause, segment_cause};
+use records::{Case, Records};
 use refusals::{Refusal, refuse_unless};
 use std::cmp;
 
@@ -27,57 +28,58 @@ struct Costs {
     counts: usize,
 }
 
-// The first cause of the buses from record first on.
-fn bus_causes(b: &[u8], first: usize, count: usize) -> Result<(), Refusal>
-    requires { 128 * (first + count) ≤ length b.now }
-    ensures { result ≡ first_cause (bus_cause b.now) first count }
+// Kept: buses and segments have a loop each: one loop over an `impl Fn` would state in its contract what each call answers, which is longer.
+// The first cause of a run of buses.
+fn bus_causes(run: Records<'_>) -> Result<(), Refusal>
+    ensures { result ≡ first_cause (bus_cause run.entry.bytes.now) run.entry.first run.entry.count }
 {
-    for i in 0..count {
-        bus_cause(b, first + i)?;
+    for i in 0..run.count {
+        bus_cause(run.record(i))?;
     }
     Ok(())
 }
 
-// That of the branches, or how many are limited.
-fn branch_causes(n: usize, b: &[u8], first: usize, count: usize) -> Result<usize, Refusal>
-    requires { 128 * (first + count) ≤ length b.now }
-    ensures value { result ≡ answer_if (first_cause (branch_cause n b.now) first count) (limited_in b.now first count) }
-    ensures limited_le_count { IfOk result (λ limited. limited ≤ count) }
+// That of branches, or how many are limited.
+fn branch_causes(n: usize, run: Records<'_>) -> Result<usize, Refusal>
+    ensures value { result ≡ answer_if (first_cause (branch_cause n run.entry.bytes.now) run.entry.first run.entry.count) (limited_in run.entry.bytes.now run.entry.first run.entry.count) }
+    ensures limited_le_count { IfOk result (λ limited. limited ≤ run.entry.count) }
 {
     let mut limited = 0;
-    for i in 0..count {
-        branch_cause(n, b, first + i)?;
-        limited += bit(records::inner::thermal_limit_active(b, first + i));
+    for i in 0..run.count {
+        let branch = run.record(i);
+        branch_cause(n, branch)?;
+        limited += usize::from(branch.thermal_limit_active());
     }
     Ok(limited)
 }
 
-// That of the generators, or what their costs have.
-fn gen_causes(n: usize, b: &[u8], first: usize, count: usize) -> Result<Costs, Refusal>
-    requires { (128 * (first + count) ≤ length b.now) × (count ≤ 4096) }
-    ensures { result ≡ answer_if (first_cause (gen_cause n b.now) first count) (costs_in b.now first count) }
+// That of generators, or what their costs have.
+fn gen_causes(n: usize, run: Records<'_>) -> Result<Costs, Refusal>
+    requires { run.count ≤ 4096 }
+    ensures { result ≡ answer_if (first_cause (gen_cause n run.entry.bytes.now) run.entry.first run.entry.count) (costs_in run.entry.bytes.now run.entry.first run.entry.count) }
 {
     let mut piecewise = 0;
     let mut counts = 0;
-    for i in 0..count {
-        gen_cause(n, b, first + i)?;
-        piecewise += bit(records::inner::piecewise(b, first + i));
-        counts += records::inner::count(b, first + i);
+    for i in 0..run.count {
+        let generator = run.record(i);
+        gen_cause(n, generator)?;
+        piecewise += usize::from(generator.piecewise());
+        counts += generator.count();
     }
     Ok(Costs { piecewise, counts })
 }
 
-// That of the segments.
-fn segment_causes(b: &[u8], first: usize, count: usize) -> Result<(), Refusal>
-    requires { 128 * (first + count) ≤ length b.now }
-    ensures { result ≡ first_cause (segment_cause b.now) first count }
+// That of segments.
+fn segment_causes(run: Records<'_>) -> Result<(), Refusal>
+    ensures { result ≡ first_cause (segment_cause run.entry.bytes.now) run.entry.first run.entry.count }
 {
-    for i in 0..count {
-        segment_cause(b, first + i)?;
+    for i in 0..run.count {
+        segment_cause(run.record(i))?;
     }
     Ok(())
 }
 
+// Kept: the counts come without records, since a layout's cause asks this too, and has none.
 // 1: the first of n, m, k, S that is too large.
 pub fn count_cause(n: usize, m: usize, k: usize, s: usize) -> Result<(), Refusal>
     ensures { result ≡ count_cause n m k s }
@@ -89,22 +91,16 @@ pub fn count_cause(n: usize, m: usize, k: usize, s: usize) -> Result<(), Refusal
 }
 
 // All records, kind by kind, and lastly the sum of the counts; the branches before branch e apart.
-fn record_causes(
-    n: usize,
-    m: usize,
-    k: usize,
-    s: usize,
-    b: &[u8],
-    e: usize,
-) -> Result<Counted, Refusal>
-    requires { (n ≤ 4096) × (m ≤ 8192) × (k ≤ 4096) × (s ≤ 65536) × (e ≤ m) × (length b.now ≡ 128 * (n + m + k + s)) }
-    ensures { result ≡ answer_if (record_causes n m k b.now (n + m + k + s) or_else sum_cause n m k s b.now) (counted_in n m k b.now e) }
+fn record_causes(case: Case<'_>, e: usize) -> Result<Counted, Refusal>
+    requires { (case.n ≤ 4096) × (case.m ≤ 8192) × (case.k ≤ 4096) × (case.s ≤ 65536) × (e ≤ case.m) × (length case.bytes.now ≡ 128 * (case.n + case.m + case.k + case.s)) }
+    ensures { result ≡ answer_if (record_causes case.entry.n case.entry.m case.entry.k case.entry.bytes.now (case.entry.n + case.entry.m + case.entry.k + case.entry.s) or_else sum_cause case.entry.n case.entry.m case.entry.k case.entry.s case.entry.bytes.now) (counted_in case.entry.n case.entry.m case.entry.k case.entry.bytes.now e) }
 {
-    bus_causes(b, 0, n)?;
-    let before = branch_causes(n, b, n, e)?;
-    let after = branch_causes(n, b, n + e, m - e)?;
-    let costs = gen_causes(n, b, n + m, k)?;
-    segment_causes(b, n + m + k, s)?;
+    let Case { n, m, k, s, bytes } = case;
+    bus_causes(Records::new(bytes, 0, n))?;
+    let before = branch_causes(n, Records::new(bytes, n, e))?;
+    let after = branch_causes(n, Records::new(bytes, n + e, m - e))?;
+    let costs = gen_causes(n, Records::new(bytes, n + m, k))?;
+    segment_causes(Records::new(bytes, n + m + k, s))?;
     let records = n + m + k + s;
     refuse_unless(costs.counts == s, Refusal::BadRecord(records as u64))?;
     Ok(Counted {
@@ -115,45 +111,31 @@ fn record_causes(
 }
 
 // What is left of the check where the counts are in range.
-fn check_counted(
-    n: usize,
-    m: usize,
-    k: usize,
-    s: usize,
-    bytes: &[u8],
-    e: usize,
-) -> Result<Counted, Refusal>
-    requires { (n ≤ 4096) × (m ≤ 8192) × (k ≤ 4096) × (s ≤ 65536) × (e ≤ m) }
-    ensures { result ≡ answer_if (length_cause (n + m + k + s) bytes.now or_else record_causes n m k bytes.now (n + m + k + s) or_else sum_cause n m k s bytes.now) (counted_in n m k bytes.now e) }
+fn check_counted(case: Case<'_>, e: usize) -> Result<Counted, Refusal>
+    requires { (case.n ≤ 4096) × (case.m ≤ 8192) × (case.k ≤ 4096) × (case.s ≤ 65536) × (e ≤ case.m) }
+    ensures { result ≡ answer_if (length_cause (case.entry.n + case.entry.m + case.entry.k + case.entry.s) case.entry.bytes.now or_else record_causes case.entry.n case.entry.m case.entry.k case.entry.bytes.now (case.entry.n + case.entry.m + case.entry.k + case.entry.s) or_else sum_cause case.entry.n case.entry.m case.entry.k case.entry.s case.entry.bytes.now) (counted_in case.entry.n case.entry.m case.entry.k case.entry.bytes.now e) }
 {
-    let length = bytes.len();
+    let length = case.bytes.len();
     refuse_unless(
-        length == 128 * (n + m + k + s),
+        length == 128 * (case.n + case.m + case.k + case.s),
         Refusal::RecordsLength(length as u64),
     )?;
-    record_causes(n, m, k, s, bytes, e)
+    record_causes(case, e)
 }
 
 // The check, with what it counts as it passes the records: the limited branches, the piecewise generators, and the limited branches before
 // branch e.
-pub fn check_counting(
-    n: usize,
-    m: usize,
-    k: usize,
-    s: usize,
-    bytes: &[u8],
-    e: usize,
-) -> Result<Counted, Refusal>
-    ensures { result ≡ answer_if (check_of n m k s bytes.now) (counted_in n m k bytes.now (min e m)) }
+pub fn check_counting(case: Case<'_>, e: usize) -> Result<Counted, Refusal>
+    ensures { result ≡ answer_if (case_check case.entry) (counted_in case.entry.n case.entry.m case.entry.k case.entry.bytes.now (min e case.entry.m)) }
 {
-    count_cause(n, m, k, s)?;
-    check_counted(n, m, k, s, bytes, cmp::min(e, m))
+    count_cause(case.n, case.m, case.k, case.s)?;
+    check_counted(case, cmp::min(e, case.m))
 }
 
 // The first cause in the order 1, 2, then record by record 3, 4, 5, lastly the sum of the counts.
-pub fn check_records(n: usize, m: usize, k: usize, s: usize, bytes: &[u8]) -> Result<(), Refusal>
-    ensures { result ≡ check_of n m k s bytes.now }
+pub fn check_records(case: Case<'_>) -> Result<(), Refusal>
+    ensures { result ≡ case_check case.entry }
 {
-    check_counting(n, m, k, s, bytes, 0)?;
+    check_counting(case, 0)?;
     Ok(())
 }

@@ -1,9 +1,8 @@
 -- The code's cells are the columns' cells. Assumes nothing.
-use Rattle.std.proofs.Common.{ℕ, ◌+◌, ◌≤◌, ◌≡◌, ap, ap₂, List, [], ◌∷◌, arith, length, Float}
-use Rattle.lists.specs.UpTo.{each, when, sum, bit, count}
-use Rattle.lists.specs.Compressed.{CellOut}
-use Rattle.lists.proofs.Each.{each_ext}
-use Rattle.lists.proofs.Sums.{bit_le, sum_mono}
+use Rattle.std.proofs.Common.{ℕ, ◌+◌, ◌≤◌, ◌≡◌, refl, ap, ap₂, ◌∙◌, true, false, List, arith, length, length-append, set, Float}
+use Rattle.lists.specs.UpTo.{each, sum, bit, count}
+use Rattle.lists.proofs.Each.{each_ext, each_more}
+use Rattle.lists.proofs.Sums.{sum_mono}
 use Rattle.ring.specs.Ops.{rounded}
 use Rattle.records.specs.AcNetwork.{AcNetwork}
 use Rattle.records.specs.Fields.{slope_of}
@@ -19,12 +18,12 @@ use Rattle.numbering.proofs.Laid.{limits_are}
 use Rattle.rows.specs.Rows.{wr, wi, ohm_value, zero64, minus_one, constant64}
 use Rattle.matrix.specs.Columns.{nonzero_cell, one_cell, slope_cell, cost_cell, cost_cells, ohm_column_cells}
 use Rattle.branch.specs.declared.Series.{Series}
-use Rattle.branch.specs.declared.Products.{Products}
-use Rattle.cells.specs.Columns.{Columns}
+use Rattle.cells.specs.declared.Cells.{Cells}
+use Rattle.cells.specs.Puts.{PutsCells, PutsColumns}
 use Rattle.cells.proofs.Sizes.{when-length}
-use Rattle.cells.proofs.Ends.{columns-turn}
+use Rattle.cells.proofs.Puts.{columns-turn, column-one, columns-none}
 use Rattle.branch.specs.Series.{series_of}
-use Rattle.branch.specs.Ohm.{branch_with, products_of}
+use Rattle.branch.specs.Ohm.{branch_with, Products, products_of}
 use Rattle.record_columns.specs.Writers.{slopes, ones, product_cells, cost_turn}
 
 module _ (l : SocWrLayout) (bytes : List ℕ) where
@@ -50,14 +49,19 @@ module _ (l : SocWrLayout) (bytes : List ℕ) where
   unfolding cost_turn
   turn-length g = when-length (G.piecewise g) (cost_cells G g)
 
-  pub turn-le : (g : ℕ) → length (cost_turn G g) ≤ 1
-  turn-le g = omega (arith, turn-length g, bit_le (G.piecewise g))
+  -- one generator more: the columns so far, with its column where it has one
+  pub more-columns : (g : ℕ) → length (each (g + 1) (cost_turn G)) ≡ length (each g (cost_turn G)) + bit (G.piecewise g)
+  more-columns g = ap length (each_more (cost_turn G) g) ∙ length-append (each g (cost_turn G)) (cost_turn G g) ∙ ap (λ (n : ℕ). length (each g (cost_turn G)) + n) (turn-length g)
 
-  -- one generator more
-  pub turned : (g : ℕ) {c₀ c : ℕ} {ss₀ ss ss' : List ℕ} {o o' o'' : CellOut} → Columns (each g (cost_turn G)) c₀ ss₀ o ss o' → c ≡ c₀ + length (each g (cost_turn G))
-      → Columns (when (G.piecewise g) (cost_cells G g ∷ [])) c ss o' ss' o'' → Columns (each (g + 1) (cost_turn G)) c₀ ss₀ o ss' o''
-  unfolding cost_turn
-  turned g h e k = columns-turn (cost_turn G) h e k
+  module _ (g : ℕ) {c₀ : ℕ} {ss₀ ss : List ℕ} {t t' : Cells} (h : PutsColumns (each g (cost_turn G)) c₀ ss₀ t ss t') where
+    pub with-cost : {c : ℕ} {ss' : List ℕ} {t'' : Cells} → c ≡ c₀ + length (each g (cost_turn G)) → G.piecewise g ≡ true → PutsCells (cost_cells G g) t' t''
+        → ss' ≡ set ss (c + 1) t''.at → PutsColumns (each (g + 1) (cost_turn G)) c₀ ss₀ t ss' t''
+    unfolding cost_turn
+    with-cost e on w s = columns-turn (cost_turn G) g h e (rw on (column-one w s))
+
+    pub without-cost : G.piecewise g ≡ false → PutsColumns (each (g + 1) (cost_turn G)) c₀ ss₀ t ss t'
+    unfolding cost_turn
+    without-cost off = columns-turn (cost_turn G) g h refl (rw off columns-none)
 
   pub wr_are : (e : ℕ) {p : Products} {x : Series} → p ≡ products_of (branch_with x zero64) wr → x ≡ series_of (branch_at rounded G e) → product_cells G e p ≡ ohm_column_cells G wr e
   unfolding product_cells ohm_column_cells ohm_value

@@ -1,12 +1,13 @@
 -- The record check's definitions, one step more at a time, as its loops go, and kind by kind. Assumes nothing.
-use Rattle.std.proofs.Common.{ℕ, zero, suc, ◌+◌, ◌-◌, ◌≤◌, ◌<◌, ◌≡◌, refl, sym, ◌∙◌, true, false, ◌&&◌, List, add-zero, zero-add, add-suc, add_assoc, arith, eqb, ne_eqb, leb-true, lt-ltb, le-ltb, Result, Ok, Err}
-use Rattle.lists.specs.UpTo.{up_to, all}
+use Rattle.std.proofs.Common.{ℕ, zero, suc, ◌+◌, ◌-◌, ◌≤◌, ◌<◌, ◌≡◌, refl, sym, ◌∙◌, List, add-zero, zero-add, add-suc, add_assoc}
+use Rattle.std.proofs.Common.{arith, leb-true, lt-ltb, le-ltb, Result, Ok, Err}
+use Rattle.lists.specs.UpTo.{up_to}
 use Rattle.lists.proofs.UpTo.{up_to-more, up_to-found, up_to-same}
 use Rattle.refusals.specs.Refusals.{Checked, passed, ◌or_else◌}
 use Rattle.refusals.specs.declared.Refusal.{Refusal}
 use Rattle.refusals.proofs.Laws.{accepted-first, or_else_refused, or_else_accepted, or_else_assoc, test-held}
-use Rattle.records.specs.Fields.{bits_of, count_of}
-use Rattle.records.specs.Check.{choose, zero_floats, count_cause, bus_cause, branch_cause, gen_cause, segment_cause, record_cause, record_causes, first_cause, count_sum}
+use Rattle.records.specs.Fields.{count_of}
+use Rattle.records.specs.Check.{choose, count_cause, bus_cause, branch_cause, gen_cause, segment_cause, record_cause, record_causes, first_cause, count_sum}
 
 module _ (n m k s : ℕ) where
   pub counts_in_range : count_cause n m k s ≡ passed → (n ≤ 4096) × (m ≤ 8192) × (k ≤ 4096) × (s ≤ 65536)
@@ -16,20 +17,6 @@ module _ (n m k s : ℕ) where
       let b = or_else_accepted _ _ a.1 in
       let c = or_else_accepted _ _ b.1 in
       (leb-true _ _ (test-held _ _ a.0), leb-true _ _ (test-held _ _ b.0), leb-true _ _ (test-held _ _ c.0), leb-true _ _ (test-held _ _ c.1))
-
-module _ (b : List ℕ) (r j : ℕ) where
-  -- the floats j, .., j + i - 1 are zero bits
-  abbrev pub zero_to : ℕ → Type 0
-  zero_to i = all i (λ x. eqb (bits_of b r (j + x)) 0) ≡ true
-
-  pub zero_more : (i : ℕ) → zero_to i → bits_of b r (j + i) ≡ 0 → zero_to (i + 1)
-  zero_more i p q = up_to-more ◌&&◌ true _ i ∙ rw (p, q)
-
-  pub nonzero-found : (i : ℕ) → i < 14 - j → zero_to i → (bits_of b r (j + i) ≡ 0 → ⊥) → zero_floats b r j ≡ false
-  unfolding zero_floats
-  nonzero-found i h p q =
-      let z : eqb (bits_of b r (j + i)) 0 ≡ false = ne_eqb _ _ q in
-      up_to-found ◌&&◌ true (λ x. eqb (bits_of b r (j + x)) 0) (λ x. refl) i (14 - j) (λ x. rw z) h p ∙ z
 
 accepted-last : (a : Checked) → a or_else passed ≡ a
 unfolding ◌or_else◌

@@ -1,12 +1,7 @@
 -- What counts and records that the check accepts have: `Network.Accepted`. Assumes nothing.
+use Rattle.std.proofs.Common.{ℕ, ◌+◌, ◌<◌, ◌≡◌, refl, sym, ◌∙◌, subst, Bool, true, false, ◌&&◌, ◌||◌, cond, List, T, eqb, ltb, arith, ltb-true, eqb-true}
+use Rattle.std.proofs.lemmas.Bool.{eqb-false, not-true}
 use Rattle.refusals.specs.Refusals.{◌or_else◌, passed}
-use Prim.Native.Nat.{ℕ, ◌+◌, ◌<◌}
-use mathlib.Core.Path.{◌≡◌, refl, sym, ◌∙◌, subst}
-use mathlib.Core.Bool.{Bool, true, false, ◌&&◌, ◌||◌, cond}
-use mathlib.Core.List.{List}
-use lib.Dec.{T, eqb, ltb}
-use native.Mathlib.Omega.{arith}
-use borrow.Author.Tests.{ltb-true, eqb-true, eqb-false, not-true}
 use Rattle.lists.proofs.UpTo.{up_to-each, up_to-same}
 use Rattle.refusals.proofs.Laws.{or_else_accepted, test-held}
 use Rattle.records.specs.Fields.{kind_of, flags_of, count_of, second_of, from_of, to_of, gen_bus_of, piecewise_of, segments_of}

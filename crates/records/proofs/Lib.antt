@@ -1,4 +1,3 @@
-pub mod Floats
 pub mod Causes
 pub mod Laws
 pub mod Sound

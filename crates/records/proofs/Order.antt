@@ -1,12 +1,6 @@
 -- The record check goes by document 01's order: each record's causes come before those of the next, and the sum's after all records'.
 -- Assumes nothing.
-use Prim.Native.Nat.{ℕ, zero, suc, ◌+◌}
-use mathlib.Core.Path.{◌≡◌, refl}
-use mathlib.Core.Bool.{Bool, true, false, not, ◌&&◌}
-use mathlib.Core.List.{List, [], ◌∷◌, ◌++◌}
-use lib.Dec.{eqb, leb, ltb}
-use lib.ListN.{length}
-use native.Mathlib.Omega.{arith}
+use Rattle.std.proofs.Common.{ℕ, zero, suc, ◌+◌, ◌≡◌, refl, Bool, true, false, not, ◌&&◌, List, [], ◌∷◌, ◌++◌, eqb, leb, ltb, length, arith}
 use Rattle.lists.specs.UpTo.{up_to, listed}
 use Rattle.refusals.specs.Refusals.{refuse_unless, Checked}
 use Rattle.refusals.specs.Order.{sooner, by_order}
@@ -33,7 +27,11 @@ module _ (n : ℕ) (b : List ℕ) (r : ℕ) where
 
   -- "record by record 3, 4, 5"
   pub branch-in_order : branch_cause n b r
-      ≡ by_order (refuse_unless (branch_form b r) (BadRecord r) ∷ refuse_unless (ltb (from_of b r) n && ltb (to_of b r) n) (NoSuchBus r) ∷ refuse_unless (not (eqb (from_of b r) (to_of b r))) (EqualEnds r) ∷ [])
+      ≡ by_order (
+      refuse_unless (branch_form b r) (BadRecord r)
+      ∷ refuse_unless (ltb (from_of b r) n && ltb (to_of b r) n) (NoSuchBus r)
+      ∷ refuse_unless (not (eqb (from_of b r) (to_of b r))) (EqualEnds r)
+      ∷ [])
   branch-in_order = in_order branch_tests
 
   pub gen_in_order : gen_cause n b r ≡ by_order (refuse_unless (gen_form b r) (BadRecord r) ∷ refuse_unless (ltb (gen_bus_of b r) n) (NoSuchBus r) ∷ [])

@@ -1,10 +1,6 @@
 -- Where the segments' records lie: those of a generator follow those of the generators before it, and all lie within the slice, since the
 -- counts of accepted records add up to S. Assumes nothing.
-use Prim.Native.Nat.{ℕ, ◌+◌, ◌*◌, ◌≤◌, ◌<◌}
-use mathlib.Core.Path.{◌≡◌}
-use mathlib.Core.List.{List}
-use native.Mathlib.Omega.{arith}
-use lib.ListN.{length}
+use Rattle.std.proofs.Common.{ℕ, ◌+◌, ◌*◌, ◌≤◌, ◌<◌, ◌≡◌, List, arith, length}
 use Rattle.lists.proofs.Sums.{sum_mono, sum-next}
 use Rattle.records.specs.Fields.{segments_of}
 use Rattle.records.specs.Network.{segments_before, segment_record, Accepted}

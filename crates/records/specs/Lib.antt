@@ -3,3 +3,4 @@ pub mod Fields
 pub mod AcNetwork
 pub mod Network
 pub mod Check
+pub mod Case

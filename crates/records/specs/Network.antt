@@ -2,7 +2,10 @@
 -- Buses start at record 0, branches at n, generators at n + m, segments at n + m + k.
 use Rattle.std.specs.Prelude.{ℕ, ◌+◌, ◌*◌, ◌≤◌, ◌<◌, ◌≡◌, false, List, length, Float}
 use Rattle.lists.specs.UpTo.{sum}
-use Rattle.records.specs.Fields.{count_of, id_of, voltage_bound_of, gs_of, bs_of, pd_of, qd_of, vm_min_of, vm_max_of, limited_of, from_of, to_of, g_of, b_of, g_fr_of, b_fr_of, g_to_of, b_to_of, tap_of, cos_shift_of, sin_shift_of, angmin_of, angmax_of, tan_angmin_of, tan_angmax_of, rate_a_of, angled_of, capability_of, piecewise_of, segments_of, gen_bus_of, pmin_of, pmax_of, qmin_of, qmax_of, cq_of, cl_of, cc_of, slope_of, intercept_of}
+use Rattle.records.specs.Fields.{count_of, id_of, voltage_bound_of, gs_of, bs_of, pd_of, qd_of, vm_min_of, vm_max_of, limited_of, from_of, to_of, g_of}
+use Rattle.records.specs.Fields.{b_of, g_fr_of, b_fr_of, g_to_of, b_to_of, tap_of, cos_shift_of, sin_shift_of, angmin_of, angmax_of, tan_angmin_of}
+use Rattle.records.specs.Fields.{tan_angmax_of, rate_a_of, angled_of, capability_of, piecewise_of, segments_of, gen_bus_of, pmin_of, pmax_of, qmin_of}
+use Rattle.records.specs.Fields.{qmax_of, cq_of, cl_of, cc_of, slope_of, intercept_of}
 use Rattle.records.specs.AcNetwork.{BranchData, AcNetwork}
 
 -- the branch at record r

@@ -1,7 +1,8 @@
 -- Checks joined by `or_else` go by document 01's order where no cause of one comes after a cause of those that follow it. Assumes nothing.
 use mathlib.Core.List.Memᴰ
 use mathlib.Core.List.{Memᴰ}
-use Rattle.std.proofs.Common.{◌≡◌, refl, sym, ◌∙◌, subst, ◌≤◌, ◌<◌, Bool, true, false, ◌&&◌, ◌||◌, cond, T, eqb, ltb, List, [], ◌∷◌, ◌++◌, ◌⊎◌, inl, inr, ⊎_elim, arith, Ok, Err, ltb-true, ltb-false, eqb-true, le-ltb, ne_eqb, eq-eqb}
+use Rattle.std.proofs.Common.{◌≡◌, refl, sym, ◌∙◌, subst, ◌≤◌, ◌<◌, Bool, true, false, ◌&&◌, ◌||◌, cond, T, eqb, ltb, List, [], ◌∷◌, ◌++◌, ◌⊎◌, inl}
+use Rattle.std.proofs.Common.{inr, ⊎_elim, arith, Ok, Err, ltb-true, ltb-false, eqb-true, le-ltb, ne_eqb, eq-eqb}
 use Rattle.refusals.specs.Refusals.{Checked, passed, ◌or_else◌, refuse_unless}
 use Rattle.refusals.specs.Order.{rank, turn_of, sooner, earlier, by_order}
 use Rattle.refusals.specs.declared.Refusal.{Refusal}

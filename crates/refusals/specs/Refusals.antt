@@ -2,7 +2,8 @@
 use Rattle.std.specs.Prelude.{ℕ, Bool, true, false, List, leb, Result, Ok, Err}
 use Rattle.lists.specs.UpTo.{overlay}
 use Rattle.refusals.specs.declared.Refusal.{Refusal}
-use Rattle.refusals.specs.declared.Refusal.TheVariants.{CountTooLarge, RecordsLength, BadRecord, NoSuchBus, EqualEnds, SolutionLength, PastEnd, PiecewiseCost, NotInSocWr, OutputTooShort, ModeAuto, BadLists, InputTooLong}
+use Rattle.refusals.specs.declared.Refusal.TheVariants.{CountTooLarge, RecordsLength, BadRecord, NoSuchBus, EqualEnds, SolutionLength, PastEnd}
+use Rattle.refusals.specs.declared.Refusal.TheVariants.{PiecewiseCost, NotInSocWr, OutputTooShort, ModeAuto, BadLists, InputTooLong}
 
 -- what a check answers, and what an entry that writes does: the count
 abbrev pub Checked : Type 0

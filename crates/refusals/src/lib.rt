@@ -5,6 +5,7 @@ ghost use Rattle.std.specs.Prelude.{◌≡◌};
 ghost use Rattle.refusals.specs.Refusals.{cause_number, cause_value, refuse_unless, room_for};
 
 // A cause of document 01. What a case holds is the value returned with its number.
+// Kept: CountTooLarge's 0..5 and SolutionLength's 0 or 1 are numbers, which document 01 returns; an enum would be turned back to them.
 #[derive(Clone, Copy)]
 pub enum Refusal {
     // 1: which of n, m, k, S, T, cost columns is too large, as 0..5
@@ -35,6 +36,7 @@ pub enum Refusal {
     InputTooLong,
 }
 
+// Kept: number_of and value_of have names, since a refusal has two numbers, and `u64::from` would name neither.
 // Document 01's number of a cause.
 pub fn number_of(r: Refusal) -> u64
     ensures { result ≡ cause_number r }

@@ -1,12 +1,7 @@
 -- The pass by entries and the pass by columns leave the same: steps in unlike columns may change places. Assumes nothing.
-use Prim.Native.Nat.{ℕ, zero, suc, ◌+◌, ◌*◌, ◌≤◌, ◌<◌}
-use mathlib.Core.Path.{◌≡◌, refl, sym, ap, ◌∙◌}
-use mathlib.Core.List.{List, [], ◌∷◌, ◌++◌}
-use native.Mathlib.Nat.{mul-le-mul_right, suc-mul}
-use native.Mathlib.Omega.{arith}
-use lib.ListN.{length, get_or}
-use lib.Seq.{set_comm, get_or-set_other}
-use lib.Ieee.{Float, nan}
+use Rattle.std.proofs.Common.{ℕ, zero, suc, ◌+◌, ◌*◌, ◌≤◌, ◌<◌, ◌≡◌, refl, sym, ap, ◌∙◌, List, [], ◌∷◌, ◌++◌, mul-le-mul_right, suc-mul, arith, length, get_or, get_or-set_other, Float}
+use Rattle.std.proofs.lemmas.List.{set_comm}
+use Rattle.std.specs.Float.{nan}
 use Rattle.lists.specs.UpTo.{up_to, listed}
 use Rattle.lists.specs.Steps.{turns, through}
 use Rattle.lists.specs.Entries.{Entry}

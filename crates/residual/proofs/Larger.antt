@@ -1,8 +1,8 @@
 -- The larger of a number with its sign clear and an absolute value, by two comparisons. Assumes nothing.
-use mathlib.Core.Path.{◌≡◌, refl, sym, subst}
-use mathlib.Core.Bool.{true, false}
-use lib.Dec.{T}
-use lib.Ieee.{Float, nan, inf, fin, of_bits, of_fields, odd, is_nan, lt, neg}
+use Rattle.std.proofs.Common.{◌≡◌, refl, sym, subst, true, false, T, Float}
+use Rattle.std.specs.Float.{nan, inf, fin}
+use Rattle.std.specs.Float.Ieee.{of_bits, lt, neg}
+use lib.Ieee.{of_fields, odd, is_nan}
 use Rattle.sparse.specs.Sparse.{zero64}
 use Rattle.residual.specs.Magnitude.{absolute, larger, unsigned}
 

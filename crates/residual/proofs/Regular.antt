@@ -1,9 +1,6 @@
 -- The residual is that of the entries, then that of the diagonal where eps is not zero. Assumes nothing.
-use Prim.Native.Nat.{ℕ}
-use mathlib.Core.Path.{◌≡◌}
-use mathlib.Core.Bool.{true, false}
-use mathlib.Core.List.{List, ◌++◌, append-nil}
-use lib.Ieee.{Float, ne}
+use Rattle.std.proofs.Common.{ℕ, ◌≡◌, true, false, List, ◌++◌, append-nil, Float}
+use Rattle.std.specs.Float.Ieee.{ne}
 use Rattle.lists.specs.Entries.{Entry}
 use Rattle.lists.proofs.Steps.{through-append}
 use Rattle.sparse.specs.Sparse.{zero64}

@@ -1,3 +1,4 @@
 pub mod Magnitude
 pub mod Residual
 pub mod Checks
+pub mod Given

@@ -3,6 +3,7 @@ ghost use Rattle.std.specs.Prelude.{◌≡◌, true};
 ghost use Rattle.residual.specs.Magnitude.{absolute, larger, max_abs, unsigned};
 
 // The larger of m, a number with its sign clear, and the absolute value of x.
+// Kept: of two that compare equal std's max may answer either, and no law of std says that equal floats of one sign are one.
 fn larger_of(m: f64, x: f64) -> f64
     requires { unsigned m ≡ true }
     ensures { (result ≡ larger m (absolute x)) × (unsigned result ≡ true) }

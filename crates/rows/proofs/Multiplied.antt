@@ -1,8 +1,8 @@
 -- The readings of a coefficient agree: 2 tm2 times it, times its denominator, is 2 tm2 times its numerator, in any commutative ring; and what
 -- the code computes is the rounded quotient of the two. Both follow by computing. Assumes nothing.
-use mathlib.Core.Path.{◌≡◌, refl}
-use mathlib.Core.List.{[], ◌∷◌}
-use lib.Ieee.{Float, binary64, of_bits, neg, div}
+use Rattle.std.proofs.Common.{◌≡◌, refl, [], ◌∷◌, Float}
+use Rattle.std.specs.Float.{binary64}
+use Rattle.std.specs.Float.Ieee.{of_bits, neg, div}
 use Rattle.ring.specs.Ops.{Ops, rounded}
 use Rattle.ring.specs.Laws.{CommutativeRing}
 use Rattle.ring.proofs.Ring.{var, formal, ring}

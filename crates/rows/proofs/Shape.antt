@@ -1,10 +1,6 @@
 -- The terms of the rows that are made by counting or by a choice, in the shape in which code writes them. The other rows' terms compute. Assumes nothing.
-use Prim.Native.Nat.{ℕ, zero, suc}
-use mathlib.Core.Path.{◌≡◌, refl, sym, ◌∙◌}
-use mathlib.Core.Bool.{Bool, true, false, cond}
-use mathlib.Core.List.{List, [], ◌∷◌, ◌++◌, append_assoc, append-nil}
-use lib.Dec.{eqb, ltb}
-use lib.Ieee.{Float, neg}
+use Rattle.std.proofs.Common.{ℕ, zero, suc, ◌≡◌, refl, sym, ◌∙◌, Bool, true, false, cond, List, [], ◌∷◌, ◌++◌, append_assoc, append-nil, eqb, ltb, Float}
+use Rattle.std.specs.Float.Ieee.{neg}
 use Rattle.lists.specs.UpTo.{up_to, each, when}
 use Rattle.lists.proofs.Each.{each_ext}
 use Rattle.ring.specs.Ops.{rounded}

@@ -1,12 +1,6 @@
 -- A row's cells and terms by ascending column. Assumes nothing.
-use Prim.Native.Nat.{ℕ, zero, suc, ◌+◌, ◌≤◌}
-use mathlib.Core.Path.{◌≡◌}
-use mathlib.Core.Bool.{Bool, true, false}
-use mathlib.Core.List.{List, [], ◌∷◌, ◌++◌, map}
-use native.Mathlib.Omega.{arith}
-use lib.ListN.{get_or, length, length-append}
-use lib.Dec.{eqb}
-use lib.Ieee.{Float, ne}
+use Rattle.std.proofs.Common.{ℕ, zero, suc, ◌+◌, ◌≤◌, ◌≡◌, Bool, true, false, List, [], ◌∷◌, ◌++◌, map, arith, get_or, length, length-append, eqb, Float}
+use Rattle.std.specs.Float.Ieee.{ne}
 use Rattle.lists.specs.UpTo.{up_to, each, when}
 use Rattle.lists.specs.Entries.{entry}
 use Rattle.lists.proofs.Ascending.{Asc, asc_from}

@@ -1,7 +1,8 @@
 -- Blocks of one length filled side by side: a turn writes one element of each. A block's elements lie behind those of the blocks before it, so a turn's
 -- store in one block leaves the later ones as they are. Assumes nothing.
+use Rattle.std.proofs.lemmas.List.{set_comm}
+use Rattle.std.proofs.lemmas.List.Edits.{sets}
 use Rattle.std.proofs.Common.{ℕ, suc, ◌+◌, ◌≤◌, ◌<◌, ◌≡◌, refl, ap, ◌∙◌, List, [], ◌∷◌, map, arith, length, set, Float}
-use lib.Seq.{sets, set_comm}
 use Rattle.lists.specs.UpTo.{listed}
 use Rattle.cells.specs.Filled.{Filled}
 use Rattle.cells.proofs.Fills.{filled_none, filled_more, filled-all, kept-length}

@@ -1,5 +1,5 @@
 -- Two blocks of b filled side by side, and some elements a turn behind both. Assumes nothing.
-use Rattle.std.proofs.Common.{ℕ, ◌+◌, ◌≤◌, ◌<◌, ◌≡◌, ◌∙◌, List, [], ◌∷◌, arith, length, set, Float}
+use Rattle.std.proofs.Common.{ℕ, ◌+◌, ◌≤◌, ◌<◌, ◌≡◌, refl, subst, ◌∙◌, List, [], ◌∷◌, arith, length, set, Float}
 use Rattle.lists.specs.UpTo.{each, listed}
 use Rattle.cells.specs.Filled.{Filled}
 use Rattle.cells.proofs.Fills.{filled-nothing, filled-turn, filled-whole, kept-length}
@@ -17,6 +17,9 @@ behind-none c f g h {l = l} a = record { mid = l; first = across_none c _ (omega
 
 pub behind-length : {c i : ℕ} {f g : ℕ → Float} {h : ℕ → List Float} {p r q : ℕ} {l l' : List Float} → Behind c i f g h p r q l l' → length l' ≡ length l
 behind-length a = kept-length a.second ∙ across_length a.first
+
+pub filled-none : {xs l : List Float} {at : ℕ} → ◌≡◌ {A = List Float} [] xs → Filled xs l at l
+filled-none {l = l} {at = at} e = subst (λ ys. Filled ys l at l) e (record { is = refl })
 
 pub behind_more : (f g : ℕ → Float) (h : ℕ → List Float) {c i p q r next : ℕ} {v w : Float} {l l' l'' : List Float} → Behind c i f g h p r q l l' → i < c → p + c ≤ r → r + c ≤ q
     → v ≡ f i → w ≡ g i → next ≡ q + length (each i h) → Filled (h i) (set (set l' (p + i) v) (r + i) w) next l'' → Behind c (i + 1) f g h p r q l l''

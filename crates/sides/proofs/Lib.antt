@@ -1,4 +1,3 @@
-pub mod LastBlock
 pub mod Ratings
 pub mod RightSide
 pub mod Across

@@ -1,7 +1,8 @@
 -- b is the runs in which the code writes it. Each run is a window of b, since a row's number is its block's first row and its place behind it; and every
 -- row, by its name, is in its block's run. So no block's neighbours are spoken of. Assumes nothing.
-use Rattle.std.proofs.Common.{ℕ, ◌+◌, ◌*◌, ◌/◌, ◌%◌, ◌≤◌, ◌<◌, ◌≡◌, refl, sym, ap, ◌∙◌, Bool, true, false, inl, List, [], ◌∷◌, ◌++◌, add_assoc, mod-lt, div-add-mod', arith, length, get_or, Float}
-use lib.Ieee.{neg}
+use Rattle.std.specs.Float.Ieee.{neg}
+use Rattle.std.proofs.Common.{ℕ, ◌+◌, ◌*◌, ◌/◌, ◌%◌, ◌≤◌, ◌<◌, ◌≡◌, refl, sym, ap, ◌∙◌, Bool, true, false, inl, List, [], ◌∷◌, ◌++◌, add_assoc, mod-lt}
+use Rattle.std.proofs.Common.{div-add-mod', arith, length, get_or, Float}
 use Rattle.lists.specs.UpTo.{up_to, each, listed, overlay, when, bit, sum}
 use Rattle.lists.proofs.Each.{each_ext, each-sums}
 use Rattle.lists.proofs.Sums.{sum-mul, sum_room}

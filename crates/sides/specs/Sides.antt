@@ -1,9 +1,8 @@
--- b in the runs in which the code writes it, one for each block of rows, and the blocks that a loop over buses or generators fills.
+-- b in the runs in which the code writes it, one for each block of rows.
 use Rattle.std.specs.Prelude.{ℕ, ◌+◌, ◌*◌, List, [], ◌∷◌, Float}
 use Rattle.std.specs.Float.Ieee.{neg}
 use Rattle.lists.specs.UpTo.{each, listed, when}
 use Rattle.records.specs.Fields.{intercept_of}
-use Rattle.numbering.specs.Numbering.{row_key}
 use Rattle.numbering.specs.Layout.{layout_row}
 use Rattle.numbering.specs.Laid.{net_of}
 use Rattle.numbering.specs.declared.SocWrLayout.{SocWrLayout}
@@ -11,19 +10,6 @@ use Rattle.numbering.specs.declared.RowName.{RowName}
 use Rattle.numbering.specs.declared.RowName.TheVariants.{Pbal, Qbal, OhmPf, OhmQf, OhmPt, OhmQt, Wub, Wlb, Pgub, Pglb, Qgub, Qglb, Angub, Anglb, Segment, Jabr, Thermal}
 use Rattle.rows.specs.Rows.{b, zero64}
 use Rattle.cells.specs.Runs.{Run, run}
-
--- the numbers of those blocks
-pub data BusBlock : ℕ → Type 0 where
-  pbal : BusBlock (row_key (Pbal 0)).block
-  qbal : BusBlock (row_key (Qbal 0)).block
-  wub : BusBlock (row_key (Wub 0)).block
-  wlb : BusBlock (row_key (Wlb 0)).block
-
-pub data GenBlock : ℕ → Type 0 where
-  pgub : GenBlock (row_key (Pgub 0)).block
-  pglb : GenBlock (row_key (Pglb 0)).block
-  qgub : GenBlock (row_key (Qgub 0)).block
-  qglb : GenBlock (row_key (Qglb 0)).block
 
 -- the right side of record i's row in a block with one row for each record; all of such a block, from its first row on
 unfoldable pub side_at : SocWrLayout → List ℕ → (ℕ → RowName) → ℕ → Float

@@ -1,30 +1,30 @@
-// Number 6 on the layout of accepted records, for an x and a z of given lengths.
+// Number 6 on an accepted network, for an x and a z of given lengths.
 ghost use Rattle.std.specs.Prelude.{◌≡◌};
 ghost use Rattle.solution.specs.Lengths.{x_cause, z_cause, solution_cause};
-ghost use Rattle.numbering.specs.Laid.{net_of, Laid};
+ghost use Rattle.numbering.specs.Network.{grid};
 
-use numbering::SocWrLayout;
+use numbering::Network;
 use refusals::{Refusal, refuse_unless};
 
-pub fn x_cause(l: SocWrLayout, bytes: &[u8], xs: usize) -> Result<(), Refusal>
-    requires { Laid l bytes.now }
-    ensures { result ≡ x_cause (net_of l bytes.now) xs }
+pub fn x_cause(net: &Network<'_>, xs: usize) -> Result<(), Refusal>
+    ensures { result ≡ x_cause (grid net.now) xs }
 {
-    refuse_unless(xs == l.column_count() as usize, Refusal::SolutionLength(0))
+    let nvar = net.layout.column_count() as usize;
+    refuse_unless(xs == nvar, Refusal::SolutionLength(0))
 }
 
-pub fn z_cause(l: SocWrLayout, bytes: &[u8], zs: usize) -> Result<(), Refusal>
-    requires { Laid l bytes.now }
-    ensures { result ≡ z_cause (net_of l bytes.now) zs }
+// Kept: x_cause has another count and another number, which are all that a joint function would take.
+pub fn z_cause(net: &Network<'_>, zs: usize) -> Result<(), Refusal>
+    ensures { result ≡ z_cause (grid net.now) zs }
 {
-    refuse_unless(zs == l.row_count() as usize, Refusal::SolutionLength(1))
+    let ncon = net.layout.row_count() as usize;
+    refuse_unless(zs == ncon, Refusal::SolutionLength(1))
 }
 
 // Of both, x first.
-pub fn solution_cause(l: SocWrLayout, bytes: &[u8], xs: usize, zs: usize) -> Result<(), Refusal>
-    requires { Laid l bytes.now }
-    ensures { result ≡ solution_cause (net_of l bytes.now) xs zs }
+pub fn solution_cause(net: &Network<'_>, xs: usize, zs: usize) -> Result<(), Refusal>
+    ensures { result ≡ solution_cause (grid net.now) xs zs }
 {
-    x_cause(l, bytes, xs)?;
-    z_cause(l, bytes, zs)
+    x_cause(net, xs)?;
+    z_cause(net, zs)
 }

@@ -1,7 +1,7 @@
 -- What lists that fit say. Assumes nothing.
 use Rattle.std.proofs.Common.{ℕ, zero, suc, ◌+◌, ◌*◌, ◌-◌, ◌≤◌, ◌<◌, ◌≡◌, true, ◌&&◌, List, mul-le-mul, arith, leb-true, ltb-true, eqb-true, leb, ltb, eqb, length, get_or, Float}
 use Rattle.lists.proofs.Tests.{both, all-at}
-use Rattle.sparse.specs.Sparse.{items_of, start_of}
+use Rattle.sparse.specs.Sparse.{items_of, start_of, Segments}
 use Rattle.sparse.specs.Checks.{most_dim, bounded, all_below, entries_fit, starts_fit, selector_fits}
 
 pub record Bounded (dim columns : ℕ) : Type 0 where
@@ -72,4 +72,15 @@ selected dim starts rows weights h =
       within = λ o l. rw (← last) (rises-to (start_of starts) (items_of starts) up o (items_of starts - o) (omega arith));
       same = eqb-true _ _ b.1;
       below = below_at dim rows a.1;
+    }
+
+-- the items of a selector that fits
+pub segments_of : {dim : ℕ} {starts rows : List ℕ} {weights : List Float} → Selected dim starts rows weights → Segments dim starts rows weights (items_of starts)
+segments_of f =
+    record {
+      few = omega (arith, f.some);
+      rises = f.rises;
+      rows-within = λ s l. f.within (s + 1) (omega arith);
+      weights_within = λ s l. omega (arith, f.within (s + 1) (omega arith), f.same);
+      below = λ s l j k. f.below j (omega (arith, f.within (s + 1) (omega arith)));
     }

@@ -1,4 +1,5 @@
 pub mod Fits
+pub mod Rising
 pub mod Places
 pub mod Folds
 pub mod Pairs

@@ -1,4 +1,5 @@
 // The entries that a call names, with the numbers and the float that it takes (docs/VECTORS.md, kind 2).
+// Kept: entries by their numbers in both `new`: the file of kept answers names them so.
 
 #[derive(Clone, Copy)]
 pub(crate) enum Entry {

@@ -1,9 +1,8 @@
 // What is read from standard input.
-ghost use Rattle.std.specs.Prelude.{◌≡◌, ◌<◌, ◌≤◌, length, take, min, vec_len, IfOk};
-ghost use Rattle.std.specs.Io.{ReadsAtMost};
-ghost use Rattle.std.specs.Io.KnownBytes.{Consumes, IsAtEnd};
+ghost use Rattle.std.specs.Prelude.{◌≡◌, ◌≤◌, min, vec_len, IfOk};
 
-use records::inner::{float_at, read32};
+use readers::read_full;
+use records::inner::float_at;
 use std::alloc::Global;
 use std::io;
 use std::io::Read;
@@ -26,7 +25,8 @@ impl Word for u64 {
 
 impl Word for u32 {
     fn of_word(word: &[u8; 8]) -> u32 {
-        read32(word, 0)
+        let [a, b, c, d, ..] = *word;
+        u32::from_le_bytes([a, b, c, d])
     }
 }
 
@@ -34,24 +34,6 @@ impl Word for f64 {
     fn of_word(word: &[u8; 8]) -> f64 {
         float_at(word, 0)
     }
-}
-
-// Reads until `to` is full or the input ends, and returns how many bytes it put at the start of `to`.
-fn read_full<R: Read>(from: &mut R, to: &mut [u8]) -> io::Result<usize>
-    ensures bound { ReadsAtMost result to.new }
-    ensures bytes { IfOk result (λ n. Consumes (R.remaining from.old) (R.remaining from.new) (take n to.new)) }
-    ensures end { IfOk result (λ n. n < length to.new → IsAtEnd (R.remaining from.new)) }
-{
-    // Kept: std's `read_exact` is an error at the end, and says nothing of the bytes before it.
-    let mut done = 0;
-    while done < to.len() {
-        let n = from.read(&mut to[done..])?;
-        if n == 0 {
-            break;
-        }
-        done += n;
-    }
-    Ok(done)
 }
 
 // The line at the front.

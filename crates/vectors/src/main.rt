@@ -24,6 +24,7 @@ enum Kind {
 
 impl From<u64> for Kind {
     // A kind that is not known ends the replay.
+    // Kept: kinds by their numbers: the file of kept answers names them so.
     fn from(word: u64) -> Kind {
         match word {
             1 => Kind::Network,

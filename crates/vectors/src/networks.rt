@@ -70,6 +70,7 @@ impl From<Name> for Results {
 
 impl Question {
     // A number that names no entry is taken as the last one.
+    // Kept: entries by their numbers: the file of kept answers names them so.
     fn next(from: &mut impl Read) -> io::Result<Question> {
         let [entry, a, b, c] = input::words::<4>(from)?;
         Ok(match entry {

@@ -1,5 +1,6 @@
 -- The buffer goes on by one column. Assumes nothing.
-use Rattle.std.proofs.Common.{ℕ, ◌+◌, ◌*◌, ◌-◌, ◌≤◌, ◌<◌, ◌≡◌, refl, sym, ap, ◌∙◌, List, [], ◌∷◌, ◌++◌, arith, length, get_or, set, take, drop, get_or-set_same, get_or-set_other, take_at, drop_at}
+use Rattle.std.proofs.Common.{ℕ, ◌+◌, ◌*◌, ◌-◌, ◌≤◌, ◌<◌, ◌≡◌, refl, sym, ap, ◌∙◌, List, [], ◌∷◌, ◌++◌, arith, length, get_or, set, take, drop}
+use Rattle.std.proofs.Common.{get_or-set_same, get_or-set_other, take_at, drop_at}
 use Rattle.std.proofs.Common.{Float}
 use Rattle.std.specs.Float.{nan}
 use native.Mathlib.Decide.{ℕ_discrete}
@@ -10,7 +11,7 @@ use Rattle.lists.proofs.Each.{each-split}
 use Rattle.lists.proofs.Listed.{listed_at}
 use Rattle.sparse.specs.Sparse.{start_of, segment, item_of}
 use Rattle.weighing.specs.Gathering.{held, span, Added, passed_rows, Segmented, Filling}
-use Rattle.weighing.proofs.Buffer.{held-length, added-count}
+use Rattle.weighing.proofs.Gathered.{held-length, added-count}
 use Rattle.weighing.proofs.Walked.{passed_here, passed-after, onward, before-both, not_reached, further_column}
 
 -- the cells from a on stand behind the first a
@@ -91,7 +92,7 @@ module _ {dim c r : ℕ} {rhs : List Float} {starts rows : List ℕ} {values : L
         below = p.below dim (omega arith) g.below;
       }
 
-module _ (dim columns c r : ℕ) (i : r < dim) {rhs : List Float} {starts rows : List ℕ} {values : List Float} {s n : ℕ} (h : s < 8) (l : c + s < columns) (m : n ≤ 512) where
+module _ (dim columns c r : ℕ) (i : r < dim) {rhs : List Float} {starts rows : List ℕ} {values : List Float} {s n : ℕ} (h : s < 8) (l : c + s < columns) (m : n ≤ 256) where
   -- the buffer was full within column c + s
   pub filling_part : (next : ℕ) → Segmented dim c r rhs (λ t. passed_rows dim (c + s) next (c + t)) starts rows values (s + 1) n
       → next < dim → passed_rows dim c r (c + s) < next → Filling dim columns c r rhs starts rows values (s + 1) (c + s) next

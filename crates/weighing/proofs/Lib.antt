@@ -1,5 +1,7 @@
 pub mod Cells
 pub mod Rows
-pub mod Buffer
+pub mod Gathered
 pub mod Filled
 pub mod Walked
+pub mod Buffers
+pub mod Walking

@@ -118,13 +118,6 @@ alone at dense across d s h =
     let e : d ≡ 0 = omega arith in
     rw e (sym (place-first at 0 across s) ∙ place-first at dense across s)
 
-pub spread-alone : {at dense across segments n : ℕ} → Spread at dense across 1 segments n → Spread at 0 across 1 segments n
-spread-alone {at} {dense} {across} w =
-    record {
-      inside = λ d s b. rw (alone at dense across d s b.0) (w.inside d s b);
-      apart = λ d s d' s' b b' e. w.apart d s d' s' b b' (sym (alone at dense across d s b.0) ∙ e ∙ alone at dense across d' s' b'.0);
-    }
-
 pub passed-alone : (at dense across segments : ℕ) {f : ℕ → ℕ → Float → Float} {m m' : List Float}
     → Passed (place at 0 across) (Below 1 segments) f m m' → Passed (place at dense across) (Below 1 segments) f m m'
 passed-alone at dense across segments a =

@@ -23,8 +23,8 @@ pub record Added (least : ℕ) (ts : List Cell) (rows : List ℕ) (values : List
 pub record Stopped (first dim count next : ℕ) : Type 0 where
   pub moved : first < next
   pub inside : next ≤ dim
-  pub room : count ≤ 512
-  pub full : next < dim → count ≡ 512
+  pub room : count ≤ 256
+  pub full : next < dim → count ≡ 256
 
 -- how many rows of column k a walk has passed that stands at row r of column c
 unfoldable pub passed_rows : ℕ → ℕ → ℕ → ℕ → ℕ
@@ -41,7 +41,7 @@ pub record Segmented (dim c r : ℕ) (rhs : List Float) (past : ℕ → ℕ) (st
 -- the buffer holds the walk from row r of column c to row r' of column c', and no other column was passed
 pub record Filling (dim columns c r : ℕ) (rhs : List Float) (starts rows : List ℕ) (values : List Float) (segments c' r' : ℕ) : Type 0 where
   pub count : ℕ
-  pub room : count ≤ 512
+  pub room : count ≤ 256
   pub has : Segmented dim c r rhs (λ t. passed_rows dim c' r' (c + t)) starts rows values segments count
   pub few : segments ≤ 8
   pub inside : c + segments ≤ columns

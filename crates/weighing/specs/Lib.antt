@@ -1,3 +1,4 @@
 pub mod Weighing
 pub mod Passes
 pub mod Gathering
+pub mod Buffers

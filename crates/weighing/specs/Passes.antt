@@ -1,8 +1,10 @@
 -- What one pass of the combinations does to the cells of a table: each of them is weighed by the terms of its own segment, once.
 -- Cell (d, s), of the dense column d and the segment s, lies at at + d * dense + s * across.
-use Rattle.std.specs.Prelude.{ℕ, ◌+◌, ◌*◌, ◌≤◌, ◌<◌, ◌≡◌, List, length, get_or, Float}
+use Rattle.std.specs.Prelude.{ℕ, ◌+◌, ◌*◌, ◌<◌, ◌≡◌, List, length, get_or, Float}
 use Rattle.std.specs.Float.{nan}
-use Rattle.sparse.specs.Sparse.{start_of, item_of}
+use Rattle.sparse.specs.Sparse.{item_of}
+use Rattle.sparse.specs.declared.lent.Dense.{Dense}
+use Rattle.sparse.specs.declared.lent.Terms.{Terms}
 use Rattle.weighing.specs.Weighing.{weighed}
 
 abbrev pub place : ℕ → ℕ → ℕ → ℕ → ℕ → ℕ
@@ -27,10 +29,6 @@ pub record Passed (pos : ℕ → ℕ → ℕ) (P : ℕ → ℕ → Type 0) (f : 
 abbrev pub weighed_at : List Float → ℕ → ℕ → List ℕ → List ℕ → List Float → ℕ → ℕ → Float → Float
 weighed_at x base dim starts rows weights d s a = weighed x (base + d * dim) (item_of starts rows weights s) a
 
--- segments that rise inside the lists, each row below dim
-pub record Segments (dim : ℕ) (starts rows : List ℕ) (weights : List Float) (segments : ℕ) : Type 0 where
-  pub few : segments < length starts
-  pub rises : (s : ℕ) → s < segments → start_of starts s ≤ start_of starts (s + 1)
-  pub rows-within : (s : ℕ) → s < segments → start_of starts (s + 1) ≤ length rows
-  pub weights_within : (s : ℕ) → s < segments → start_of starts (s + 1) ≤ length weights
-  pub below : (s : ℕ) → s < segments → (j : ℕ) → j < start_of starts (s + 1) → get_or rows j 0 < dim
+-- the same, of what is lent
+abbrev pub weighed_by : Dense → ℕ → Terms → ℕ → ℕ → Float → Float
+weighed_by x base t = weighed_at x.values.now base x.dim t.selector.starts.now t.selector.rows.now t.selector.weights.now

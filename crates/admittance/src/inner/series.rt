@@ -1,27 +1,23 @@
 // The column of a branch's series conductance or susceptance.
 ghost use Rattle.std.specs.Prelude.{◌≡◌, ◌<◌};
 ghost use Rattle.numbering.specs.Layout.{InRange};
-ghost use Rattle.numbering.specs.Laid.{net_of, Laid};
+ghost use Rattle.numbering.specs.Network.{grid};
 ghost use Rattle.admittance.specs.Stores.{stored_all};
 ghost use Rattle.admittance.specs.Admittance.{series_stores};
 ghost use Rattle.admittance.specs.Places.{RowsAre, ColumnsAre, series_entries, landed_all};
 
+use crate::Entry;
 use crate::inner::stores::land;
-use branch::Series;
+use branch::inner::places::{from_bus, to_bus};
 use branch::inner::series;
+use branch::{ByOhmRow, Series};
 use interface::GB;
-use numbering::SocWrLayout;
-use records::inner::{br_from, br_to};
+use numbering::{Network, SocWrLayout};
 
-// The numbers of a branch's Ohm rows, and of their columns but the flows'.
-#[derive(Clone, Copy)]
-pub struct OhmRows {
-    pub pf: u32,
-    pub qf: u32,
-    pub pt: u32,
-    pub qt: u32,
-}
+// The numbers of a branch's Ohm rows.
+pub type OhmRows = ByOhmRow<u32>;
 
+// Those of their columns but the flows'.
 #[derive(Clone, Copy)]
 pub struct OhmColumns {
     pub from: u32,
@@ -30,16 +26,12 @@ pub struct OhmColumns {
     pub wi: u32,
 }
 
-// An entry of d_a: its row, its column and its value.
-#[derive(Clone, Copy)]
-pub struct Entry(pub u32, pub u32, pub f64);
-
 fn ohm_rows(l: SocWrLayout, e: usize) -> OhmRows
     requires in_range { InRange l }
     requires e_lt_m { e < l.m }
     ensures { RowsAre l e result }
 {
-    OhmRows {
+    ByOhmRow {
         pf: l.ohm_pf_row(e),
         qf: l.ohm_qf_row(e),
         pt: l.ohm_pt_row(e),
@@ -47,14 +39,14 @@ fn ohm_rows(l: SocWrLayout, e: usize) -> OhmRows
     }
 }
 
-fn ohm_columns(l: SocWrLayout, from: usize, to: usize, e: usize) -> OhmColumns
-    requires in_range { InRange l }
-    requires from_lt_n { (from < l.n) × (to < l.n) × (e < l.m) }
-    ensures { ColumnsAre l from to e result }
+fn ohm_columns(net: &Network<'_>, e: usize) -> OhmColumns
+    requires { e < net.now.layout.m }
+    ensures { ColumnsAre net.now.layout ((grid net.now).from e) ((grid net.now).to e) e result }
 {
+    let l = net.layout;
     OhmColumns {
-        from: l.w_column(from),
-        to: l.w_column(to),
+        from: l.w_column(from_bus(net, e)),
+        to: l.w_column(to_bus(net, e)),
         wr: l.wr_column(e),
         wi: l.wi_column(e),
     }
@@ -103,31 +95,28 @@ fn entries(r: OhmRows, c: OhmColumns, t: Series, gb: GB) -> [Entry; 10]
     }
 }
 
+// Kept: x and z beside nvar, no point and no struct: they may have any length here, and go on to `land` as they came.
 fn land_all(column: &mut [f64], nvar: u32, es: [Entry; 10], x: &[f64], z: &[f64])
     ensures { column.new ≡ stored_all (landed_all x.now z.now nvar es) column.old }
 {
     for e in &es {
-        land(column, nvar, e.0, e.1, e.2, x, z);
+        land(column, nvar, *e, x, z);
     }
 }
 
+// Kept: x and z beside the network, no point: they may have any length here, those of a point have the network's lengths.
 pub fn series_admittance(
-    l: SocWrLayout,
-    bytes: &[u8],
+    net: &Network<'_>,
     gb: GB,
     e: usize,
     x: &[f64],
     z: &[f64],
     column: &mut [f64],
 )
-    requires laid { Laid l bytes.now }
-    requires e_lt_m { e < l.m }
-    ensures { column.new ≡ stored_all (series_stores (net_of l bytes.now) x.now z.now gb e) column.old }
+    requires { e < net.now.layout.m }
+    ensures { column.new ≡ stored_all (series_stores (grid net.now) x.now z.now gb e) column.old }
 {
-    let r = l.n + e;
-    let from = br_from(bytes, r) as usize;
-    let to = br_to(bytes, r) as usize;
-    let cols = ohm_columns(l, from, to, e);
-    let es = entries(ohm_rows(l, e), cols, series(bytes, r), gb);
-    land_all(column, l.column_count(), es, x, z);
+    let rows = ohm_rows(net.layout, e);
+    let es = entries(rows, ohm_columns(net, e), series(net.branch(e)), gb);
+    land_all(column, net.layout.column_count(), es, x, z);
 }

@@ -2,7 +2,10 @@
 ghost use Rattle.std.specs.Prelude.{◌≡◌, [], ◌∷◌, ◌+◌, get_or, set};
 ghost use Rattle.std.specs.Float.{binary64, nan};
 ghost use Rattle.std.specs.Float.Ieee.{add, mul};
-ghost use Rattle.admittance.specs.Stores.{plus, stored_all};
+ghost use Rattle.admittance.specs.Stores.{stored_all};
+ghost use Rattle.admittance.specs.Places.{landed_at};
+
+use crate::Entry;
 
 // x[at].
 pub fn value(x: &[f64], at: usize) -> f64
@@ -21,9 +24,11 @@ pub fn add(column: &mut [f64], at: usize, v: f64)
 }
 
 // An entry da of d_a at a row and a column: da x at the row's KKT row, da z at the column.
-pub fn land(column: &mut [f64], nvar: u32, row: u32, col: u32, da: f64, x: &[f64], z: &[f64])
-    ensures { column.new ≡ stored_all (plus (nvar + row) (mul binary64 da (get_or x.now col nan)) ∷ plus col (mul binary64 da (get_or z.now row nan)) ∷ []) column.old }
+// Kept: x and z beside nvar, no point: they may have any length here.
+pub fn land(column: &mut [f64], nvar: u32, e: Entry, x: &[f64], z: &[f64])
+    ensures { column.new ≡ stored_all (landed_at x.now z.now nvar e) column.old }
 {
+    let Entry(row, col, da) = e;
     let r = row as usize;
     let c = col as usize;
     add(column, nvar as usize + r, da * value(x, c));

@@ -2,51 +2,24 @@
 ghost use Rattle.std.specs.Prelude.{◌≡◌, ◌+◌, ◌<◌, ◌^◌, length};
 ghost use Rattle.lists.specs.UpTo.{each};
 ghost use Rattle.lists.specs.Puts.{Puts};
-ghost use Rattle.lines.specs.Line.{Stands};
 ghost use Rattle.complementarity.specs.Writes.{row_entries};
-ghost use Rattle.blocks.specs.Kinds.{bound_name, bound_count};
+ghost use Rattle.bounds.specs.Kinds.{bound_name, bound_count};
 ghost use Rattle.numbering.specs.Network.{grid};
 
 use crate::BoundKind;
 use complementarity::Point;
 use complementarity::inner::single::put_row;
-use lines::Line;
-use lines::inner::angles::{anglb, angub};
-use lines::inner::buses::{wlb, wub};
-use lines::inner::generators::{pglb, pgub, qglb, qgub};
+use lines::inner::bounded::bound_line;
 use lists::Triplets;
-use numbering::{Network, SocWrLayout};
+use numbering::SocWrLayout;
 
 fn count_of(l: SocWrLayout, kind: BoundKind) -> usize
     ensures { result ≡ bound_count l kind }
 {
     match kind {
-        BoundKind::Wub => l.n,
-        BoundKind::Wlb => l.n,
-        BoundKind::Pgub => l.k,
-        BoundKind::Pglb => l.k,
-        BoundKind::Qgub => l.k,
-        BoundKind::Qglb => l.k,
-        BoundKind::Angub => l.m,
-        BoundKind::Anglb => l.m,
-    }
-}
-
-fn bound_line(net: &Network<'_>, kind: BoundKind, i: usize) -> Line
-    requires { i < bound_count net.now.layout kind }
-    ensures { Stands (grid net.now) (bound_name kind i) result }
-{
-    let l = net.layout;
-    let bytes = net.bytes;
-    match kind {
-        BoundKind::Wub => wub(l, bytes, i),
-        BoundKind::Wlb => wlb(l, bytes, i),
-        BoundKind::Pgub => pgub(l, bytes, i),
-        BoundKind::Pglb => pglb(l, bytes, i),
-        BoundKind::Qgub => qgub(l, bytes, i),
-        BoundKind::Qglb => qglb(l, bytes, i),
-        BoundKind::Angub => angub(l, bytes, i),
-        BoundKind::Anglb => anglb(l, bytes, i),
+        BoundKind::Wub | BoundKind::Wlb => l.n,
+        BoundKind::Pgub | BoundKind::Pglb | BoundKind::Qgub | BoundKind::Qglb => l.k,
+        BoundKind::Angub | BoundKind::Anglb => l.m,
     }
 }
 

@@ -9,16 +9,16 @@ ghost use Rattle.blocks.specs.Kinds.{thermal_in};
 
 use complementarity::Point;
 use complementarity::inner::cones::put_lines;
-use lines::inner::cones::{jabr, thermal_from, thermal_to};
+use interface::End;
+use lines::inner::cones::{jabr, thermal};
 use lists::Triplets;
-use lists::inner::bit;
 
 fn jabr_row(list: &mut Triplets<'_>, p: &Point<'_>, d: bool, e: usize)
     requires e_lt_m { e < p.now.net.layout.m }
     requires room { list.old.at + length (cone_in (grid p.now.net) p.now.x.now p.now.z.now d 4 (Jabr e)) < 2 ^ 64 }
     ensures { Puts (cone_in (grid p.now.net) p.now.x.now p.now.z.now d 4 (Jabr e)) list.old list.new }
 {
-    let c = jabr(p.net.layout, p.net.bytes, e);
+    let c = jabr(&p.net, e);
     let v = p.net.layout.column_count();
     put_lines(list, d, v, c, 4, p.x, p.z);
 }
@@ -39,12 +39,11 @@ fn thermal_row(list: &mut Triplets<'_>, p: &Point<'_>, d: bool, e: usize, limits
     requires room { list.old.at + length (thermal_in (grid p.now.net) p.now.x.now p.now.z.now d e) < 2 ^ 64 }
     ensures { Puts (thermal_in (grid p.now.net) p.now.x.now p.now.z.now d e) list.old list.new }
 {
-    let l = p.net.layout;
     let r = p.net.branch(e);
     if r.thermal_limit_active() {
-        let v = l.column_count();
-        let a = thermal_from(l, p.net.bytes, e, limits);
-        let b = thermal_to(l, p.net.bytes, e, limits);
+        let v = p.net.layout.column_count();
+        let a = thermal(&p.net, End::From, e, limits);
+        let b = thermal(&p.net, End::To, e, limits);
         put_lines(list, d, v, a, 3, p.x, p.z);
         put_lines(list, d, v, b, 3, p.x, p.z);
     }
@@ -59,6 +58,6 @@ pub fn thermal_rows(list: &mut Triplets<'_>, p: &Point<'_>, d: bool)
     for e in 0..p.net.layout.m {
         thermal_row(list, p, d, e, limits);
         let r = p.net.branch(e);
-        limits += bit(r.thermal_limit_active());
+        limits += usize::from(r.thermal_limit_active());
     }
 }

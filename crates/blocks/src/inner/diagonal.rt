@@ -14,7 +14,7 @@ pub fn put_quadratic(list: &mut Triplets<'_>, net: &Network<'_>)
     ensures { Puts (quadratic (grid net.now)) list.old list.new }
 {
     for g in 0..net.layout.k {
-        let v = quad_value(net.layout, net.bytes, g);
+        let v = quad_value(net, g);
         let c = net.layout.pg_column(g);
         list.put_if(v != 0.0, c, c, v);
     }

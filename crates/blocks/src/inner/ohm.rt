@@ -28,7 +28,7 @@ fn ohm_row(list: &mut Triplets<'_>, net: &Network<'_>, q: OhmRow, e: usize)
     requires room { list.old.at + length (plain_row (grid net.now) (ohm_row q e)) < 2 ^ 64 }
     ensures { Puts (plain_row (grid net.now) (ohm_row q e)) list.old list.new }
 {
-    let o = ohm_line(net.layout, net.bytes, q, e);
+    let o = ohm_line(net, q, e);
     let r = net.layout.column_count() + o.row;
     put_ohm(list, r, o);
 }

@@ -8,9 +8,8 @@ ghost use Rattle.complementarity.specs.Writes.{row_entries};
 
 use complementarity::Point;
 use complementarity::inner::single::put_row;
-use lines::inner::generators::segment;
+use lines::inner::segments::segment;
 use lists::Triplets;
-use lists::inner::bit;
 
 fn segment_row(
     list: &mut Triplets<'_>,
@@ -26,7 +25,7 @@ fn segment_row(
     requires room { list.old.at + length (row_entries (grid p.now.net) p.now.x.now p.now.z.now d (Segment g t)) < 2 ^ 64 }
     ensures { Puts (row_entries (grid p.now.net) p.now.x.now p.now.z.now d (Segment g t)) list.old list.new }
 {
-    let line = segment(p.net.layout, p.net.bytes, g, t, before, curves);
+    let line = segment(&p.net, g, t, before, curves);
     let v = p.net.layout.column_count();
     put_row(list, d, v, line, p.x, p.z);
 }
@@ -62,6 +61,6 @@ pub fn segment_rows(list: &mut Triplets<'_>, p: &Point<'_>, d: bool)
         segments_of(list, p, d, g, before, curves);
         let r = p.net.generator(g);
         before += r.segments();
-        curves += bit(r.piecewise());
+        curves += usize::from(r.piecewise());
     }
 }

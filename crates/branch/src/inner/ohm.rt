@@ -1,28 +1,29 @@
 // The coefficients of a branch's Ohm rows.
-ghost use Rattle.std.specs.Prelude.{◌≡◌, ◌+◌, ◌*◌, ◌≤◌, length};
+ghost use Rattle.std.specs.Prelude.{◌≡◌};
 ghost use Rattle.rows.specs.Branch.{branch_of};
 ghost use Rattle.rows.specs.Rows.{zero64, ohm_value, w, wr, wi};
 ghost use Rattle.branch.specs.Series.{series_of};
 ghost use Rattle.branch.specs.Ohm.{shunt_of, branch_with, products_of};
 
-use crate::{Products, Series};
-use records::inner::{b_fr, b_to, g_fr, g_to};
+use crate::{ByOhmRow, Products, Series};
+use records::Record;
 use rows::OhmRow;
 
-// The shunt that stands in an Ohm row of the branch at record r: the conductance or susceptance of the row's end.
-pub fn shunt(q: OhmRow, bytes: &[u8], r: usize) -> f64
-    requires { 128 * r + 128 ≤ length bytes.now }
-    ensures { result ≡ shunt_of (branch_of bytes.now r) q }
+// The shunt that stands in an Ohm row of the branch: the conductance or susceptance of the row's end.
+#[tactic(auto, unfolding(rows::specs::Branch::gathered, records::specs::Network::branch_data_of))]
+pub fn shunt(q: OhmRow, r: Record<'_>) -> f64
+    ensures { result ≡ shunt_of (branch_of r.entry.bytes.now r.entry.r) q }
 {
     match q {
-        OhmRow::Pf => g_fr(bytes, r),
-        OhmRow::Qf => b_fr(bytes, r),
-        OhmRow::Pt => g_to(bytes, r),
-        OhmRow::Qt => b_to(bytes, r),
+        OhmRow::Pf => r.g_fr(),
+        OhmRow::Qf => r.b_fr(),
+        OhmRow::Pt => r.g_to(),
+        OhmRow::Qt => r.b_to(),
     }
 }
 
 // The coefficient of the row's w, whose end has the shunt.
+#[tactic(auto, unfolding(rows::specs::Rows::ohm_value))]
 pub fn w_value(q: OhmRow, t: Series, shunt: f64) -> f64
     ensures { result ≡ ohm_value (branch_with t shunt) q w }
 {
@@ -34,16 +35,17 @@ pub fn w_value(q: OhmRow, t: Series, shunt: f64) -> f64
     }
 }
 
-// That of w, where t is the branch at record r.
-pub fn w_at(q: OhmRow, t: Series, bytes: &[u8], r: usize) -> f64
-    requires r_in_bounds { 128 * r + 128 ≤ length bytes.now }
-    requires t_value { t ≡ series_of (branch_of bytes.now r) }
-    ensures { result ≡ ohm_value (branch_of bytes.now r) q w }
+// That of w, where t is the branch of the record.
+#[tactic(auto, using(crate::proofs::Coefficients::w_of))]
+pub fn w_at(q: OhmRow, t: Series, r: Record<'_>) -> f64
+    requires { t ≡ series_of (branch_of r.bytes.now r.r) }
+    ensures { result ≡ ohm_value (branch_of r.entry.bytes.now r.entry.r) q w }
 {
-    w_value(q, t, shunt(q, bytes, r))
+    w_value(q, t, shunt(q, r))
 }
 
 // Those of wr and wi.
+#[tactic(auto, unfolding(rows::specs::Rows::ohm_value))]
 pub fn wr_value(q: OhmRow, t: Series) -> f64
     ensures { result ≡ ohm_value (branch_with t zero64) q wr }
 {
@@ -55,6 +57,7 @@ pub fn wr_value(q: OhmRow, t: Series) -> f64
     }
 }
 
+#[tactic(auto, unfolding(rows::specs::Rows::ohm_value))]
 pub fn wi_value(q: OhmRow, t: Series) -> f64
     ensures { result ≡ ohm_value (branch_with t zero64) q wi }
 {
@@ -67,11 +70,11 @@ pub fn wi_value(q: OhmRow, t: Series) -> f64
 }
 
 // The coefficients of wr and of wi in the four Ohm rows.
-// Kept: one function for both would take the one to call, and each call would name it.
+// Kept: one function would take wr_value or wi_value as a closure, and promise what the closure does; each call would name it.
 pub fn wr_products(t: Series) -> Products
     ensures { result ≡ products_of (branch_with t zero64) wr }
 {
-    Products {
+    ByOhmRow {
         pf: wr_value(OhmRow::Pf, t),
         qf: wr_value(OhmRow::Qf, t),
         pt: wr_value(OhmRow::Pt, t),
@@ -82,7 +85,7 @@ pub fn wr_products(t: Series) -> Products
 pub fn wi_products(t: Series) -> Products
     ensures { result ≡ products_of (branch_with t zero64) wi }
 {
-    Products {
+    ByOhmRow {
         pf: wi_value(OhmRow::Pf, t),
         qf: wi_value(OhmRow::Qf, t),
         pt: wi_value(OhmRow::Pt, t),

@@ -1,4 +1,4 @@
--- The record check ends the entry, or the column of the network's layout decides.
+-- The record check ends the entry, or the column of the network decides.
 use Rattle.std.proofs.Common.{refl}
 use Rattle.refusals.proofs.Laws.{refused_by, answer_ended, answer_went_on, left_ended, left_went_on}
 use Rattle.numbering.proofs.OnePass.{pass-check, pass-layout, pass-laid, pass-before}
@@ -9,11 +9,14 @@ returns-in_err-checked c =
     let h = refused_by _ _ c.check_layout.ensures c.in_err-checked.was in
     record { value = answer_ended _ _ refl c.from_residual.ensures.1 h; column_after = left_ended refl _ _ _ h }
 
+pub invariant_of-net : goal.invariant_of-net
+invariant_of-net c = record { laid = pass-laid _ _ _ _ _ _ c.check_layout.ensures c.in_ok-checked.was }
+
 pub column_of-requires : goal.column_of-requires
 column_of-requires c =
     let p = c.check_layout.ensures in
     let h = c.in_ok-checked.was in
-    record { laid = pass-laid _ _ _ _ _ _ p h; before_value = rw (pass-layout _ _ _ _ _ _ p h) (pass-before _ _ _ _ _ _ p h) }
+    rw (pass-layout _ _ _ _ _ _ p h) (pass-before _ _ _ _ _ _ p h)
 
 pub returns : goal.returns
 returns c =

@@ -1,8 +1,10 @@
 // One column of the KKT system by a parameter.
+// Kept: x and z beside the network, no point: column_of tests their lengths, and `Point` is of complementarity, else not needed in columns.
+// Kept: `before` with its clause: the record check counts it in passing, and only line_limit reads it; a struct would be made and read once.
 ghost use Rattle.std.specs.Prelude.{◌≡◌, ◌<◌, length};
 ghost use Rattle.refusals.specs.Refusals.{answer_if, left_in};
 ghost use Rattle.numbering.specs.Tally.{tally_of};
-ghost use Rattle.numbering.specs.Laid.{net_of, Laid};
+ghost use Rattle.numbering.specs.Network.{grid};
 ghost use Rattle.numbering.specs.declared.Tally.TheVariants.{Limited};
 ghost use Rattle.elements.specs.Lengths.{parameter_len};
 ghost use Rattle.admittance.specs.Stores.{stored_all};
@@ -11,20 +13,18 @@ ghost use Rattle.columns.specs.Jacobian.{stores, dim, jacobian, piecewise_cause,
 use crate::inner::limit::line_limit;
 use admittance::inner::series::series_admittance;
 use admittance::inner::shunt::shunt;
-use elements::inner::lengths::{asks_cost, has_parameter, parameter_count};
+use elements::inner::lengths::{asks_cost, parameter_length};
 use interface::Parameter;
 use lists::inner::fill;
-use numbering::SocWrLayout;
+use numbering::Network;
 use plain_columns::inner::{cost, demand, gen_bound, voltage_bound};
-use records::inner::{id, piecewise};
 use refusals::{Refusal, refuse_unless, room_for};
 use solution::inner::solution_cause;
 
 // The stores of a column; before branch i there are so many limited ones.
 #[tactic(auto, unfolding(crate::specs::Jacobian::stores, admittance::specs::Stores::stored_all))]
 fn write(
-    l: SocWrLayout,
-    bytes: &[u8],
+    net: &Network<'_>,
     x: &[f64],
     z: &[f64],
     p: Parameter,
@@ -32,16 +32,16 @@ fn write(
     before: usize,
     column: &mut [f64],
 )
-    requires laid { Laid l bytes.now }
-    requires i_bound { i < parameter_len l.n l.m l.k p }
-    requires before_value { i < l.m → before ≡ tally_of Limited bytes.now l.n i }
-    ensures { column.new ≡ stored_all (stores (net_of l bytes.now) x.now z.now p i) column.old }
+    requires i_bound { i < parameter_len net.now.layout.n net.now.layout.m net.now.layout.k p }
+    requires before_value { i < net.now.layout.m → before ≡ tally_of Limited net.now.bytes.now net.now.layout.n i }
+    ensures { column.new ≡ stored_all (stores (grid net.now) x.now z.now p i) column.old }
 {
+    let l = net.layout;
     match p {
         Parameter::Demand(power) => demand(l, power, i, column),
         Parameter::Cost(term) => cost(l, term, i, x, column),
-        Parameter::LineLimit => line_limit(l, bytes, i, before, z, column),
-        Parameter::SeriesAdmittance(gb) => series_admittance(l, bytes, gb, i, x, z, column),
+        Parameter::LineLimit => line_limit(net, i, before, z, column),
+        Parameter::SeriesAdmittance(gb) => series_admittance(net, gb, i, x, z, column),
         Parameter::ShuntAdmittance(gb) => shunt(l, gb, i, x, z, column),
         Parameter::VoltageBound(bound) => voltage_bound(l, bound, i, z, column),
         Parameter::GenBound { power, bound } => gen_bound(l, power, bound, i, z, column),
@@ -52,62 +52,53 @@ fn write(
 }
 
 // nvar + ncon.
-fn dim(l: SocWrLayout, bytes: &[u8]) -> usize
-    requires { Laid l bytes.now }
-    ensures { result ≡ dim (net_of l bytes.now) }
+fn dim(net: &Network<'_>) -> usize
+    ensures { result ≡ dim (grid net.now) }
 {
-    l.column_count() as usize + l.row_count() as usize
+    net.layout.column_count() as usize + net.layout.row_count() as usize
 }
 
 // 8.
-fn piecewise_cause(l: SocWrLayout, bytes: &[u8], p: Parameter, i: usize) -> Result<(), Refusal>
-    requires laid { Laid l bytes.now }
-    requires i_bound { i < parameter_len l.n l.m l.k p }
-    ensures { result ≡ piecewise_cause (net_of l bytes.now) p i }
+fn piecewise_cause(net: &Network<'_>, p: Parameter, i: usize) -> Result<(), Refusal>
+    requires { i < parameter_len net.now.layout.n net.now.layout.m net.now.layout.k p }
+    ensures { result ≡ piecewise_cause (grid net.now) p i }
 {
     if !asks_cost(p) {
         return Ok(());
     }
-    let r = l.n + l.m + i;
-    refuse_unless(
-        !piecewise(bytes, r),
-        Refusal::PiecewiseCost(id(bytes, r) as u64),
-    )
+    let r = net.generator(i);
+    refuse_unless(!r.piecewise(), Refusal::PiecewiseCost(r.id() as u64))
 }
 
 // 9, 7, 8.
-fn parameter_cause(l: SocWrLayout, bytes: &[u8], p: Parameter, i: usize) -> Result<(), Refusal>
-    requires { Laid l bytes.now }
-    ensures { result ≡ parameter_cause (net_of l bytes.now) p i }
+fn parameter_cause(net: &Network<'_>, p: Parameter, i: usize) -> Result<(), Refusal>
+    ensures { result ≡ parameter_cause (grid net.now) p i }
 {
-    refuse_unless(has_parameter(p), Refusal::NotInSocWr)?;
-    let items = parameter_count(l.n, l.m, l.k, p);
+    let l = net.layout;
+    let items = parameter_length(l.n, l.m, l.k, p).ok_or(Refusal::NotInSocWr)?;
     refuse_unless(i < items, Refusal::PastEnd(i as u64))?;
-    piecewise_cause(l, bytes, p, i)
+    piecewise_cause(net, p, i)
 }
 
 // 6, 9, 7, 8, 10.
 fn column_cause(
-    l: SocWrLayout,
-    bytes: &[u8],
+    net: &Network<'_>,
     p: Parameter,
     i: usize,
     xs: usize,
     zs: usize,
     there: usize,
 ) -> Result<(), Refusal>
-    requires { Laid l bytes.now }
-    ensures { result ≡ column_cause (net_of l bytes.now) p i xs zs there }
+    ensures { result ≡ column_cause (grid net.now) p i xs zs there }
 {
-    solution_cause(l, bytes, xs, zs)?;
-    parameter_cause(l, bytes, p, i)?;
-    room_for(dim(l, bytes), there)
+    solution_cause(net, xs, zs)?;
+    parameter_cause(net, p, i)?;
+    room_for(dim(net), there)
 }
 
-// The column of accepted records.
+// The column of an accepted network.
 pub fn column_of(
-    l: SocWrLayout,
-    bytes: &[u8],
+    net: &Network<'_>,
     x: &[f64],
     z: &[f64],
     p: Parameter,
@@ -115,14 +106,13 @@ pub fn column_of(
     before: usize,
     column: &mut [f64],
 ) -> Result<u64, Refusal>
-    requires laid { Laid l bytes.now }
-    requires before_value { i < l.m → before ≡ tally_of Limited bytes.now l.n i }
-    ensures value { result ≡ answer_if (column_cause (net_of l bytes.now) p i (length x.now) (length z.now) (length column.old)) (dim (net_of l bytes.now)) }
-    ensures column_after { column.new ≡ left_in (column_cause (net_of l bytes.now) p i (length x.now) (length z.now) (length column.old)) (jacobian (net_of l bytes.now) x.now z.now p i) column.old }
+    requires { i < net.now.layout.m → before ≡ tally_of Limited net.now.bytes.now net.now.layout.n i }
+    ensures value { result ≡ answer_if (column_cause (grid net.now) p i (length x.now) (length z.now) (length column.old)) (dim (grid net.now)) }
+    ensures column_after { column.new ≡ left_in (column_cause (grid net.now) p i (length x.now) (length z.now) (length column.old)) (jacobian (grid net.now) x.now z.now p i) column.old }
 {
-    column_cause(l, bytes, p, i, x.len(), z.len(), column.len())?;
-    let need = dim(l, bytes);
+    column_cause(net, p, i, x.len(), z.len(), column.len())?;
+    let need = dim(net);
     fill(column, need, 0.0);
-    write(l, bytes, x, z, p, i, before, &mut column[..need]);
+    write(net, x, z, p, i, before, &mut column[..need]);
     Ok(need as u64)
 }

@@ -1,4 +1,5 @@
 // One row of at most two terms.
+// Kept: nvar, x and z beside the line, no Point: no network is known here, and what is asked is of the lists' lengths alone.
 ghost use Rattle.std.specs.Prelude.{◌≡◌, ◌+◌, ◌<◌, ◌^◌, length};
 ghost use Rattle.std.specs.Float.Ieee.{mul};
 ghost use Rattle.std.specs.Float.{binary64};
@@ -21,6 +22,7 @@ pub(crate) fn put_line(list: &mut Triplets<'_>, r: u32, line: Line)
 }
 
 // The terms in row r, each times f.
+// Kept: put_line is not this with f = 1, since 1.0 * NaN may be another NaN; one function would take f as an Option or a closure.
 pub(crate) fn put_scaled(list: &mut Triplets<'_>, r: u32, f: f64, line: Line)
     requires { list.old.at + length (line_at r (mul binary64 f) line) < 2 ^ 64 }
     ensures { Puts (line_at r (mul binary64 f) line) list.old list.new }
@@ -66,6 +68,7 @@ fn put_bound(list: &mut Triplets<'_>, nvar: u32, line: Line, x: &[f64], z: &[f64
 }
 
 // The row as it is, or as a row of the nonnegative cone.
+// Kept: `bound` is a test, as in line_in; two functions would double their callers in blocks and entries, which pass it on.
 pub fn put_row(list: &mut Triplets<'_>, bound: bool, nvar: u32, line: Line, x: &[f64], z: &[f64])
     requires within { Within (length x.now) (length z.now) line }
     requires z_bound { nvar + length z.now < 2 ^ 32 }

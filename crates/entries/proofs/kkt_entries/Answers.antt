@@ -10,7 +10,7 @@ returns-in_err-net c =
     let a = c.args in
     record {
       answered = stopped _ (rw c.in_err-net.was at c.new.ensures) c.from_residual.ensures.1;
-      demanded = demand3 a.n a.m a.k a.s a.bytes.now a.x.now a.z.now;
+      demanded = demand3 a.case.n a.case.m a.case.k a.case.s a.case.bytes.now a.x.now a.z.now;
     }
 
 pub returns : goal.returns
@@ -20,5 +20,5 @@ returns c =
     let o = rw c.in_ok-net.was at c.new.ensures in
     record {
       answered = went_on o.accepted (rw (o.layout, o.bytes) at c.kkt_checked.ensures);
-      demanded = demand3 a.n a.m a.k a.s a.bytes.now a.x.now a.z.now;
+      demanded = demand3 a.case.n a.case.m a.case.k a.case.s a.case.bytes.now a.x.now a.z.now;
     }

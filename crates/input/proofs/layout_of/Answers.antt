@@ -7,5 +7,5 @@ returns-in_err-refuse_unless c = answer_ended _ _ c.refuse_unless.ensures c.from
 
 pub returns : goal.returns
 returns c =
-    let e = c.counts_in-c.ensures in
-    answer_went_on _ _ c.refuse_unless.ensures c.in_ok-refuse_unless.was (rw (e.n, e.m, e.k, e.s) at c.new.ensures)
+    let e = c.case_in.ensures.counts in
+    answer_went_on _ _ c.refuse_unless.ensures c.in_ok-refuse_unless.was (rw (e.n, e.m, e.k, e.s, c.case_in.ensures.bytes) at c.new.ensures)

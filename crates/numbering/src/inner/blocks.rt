@@ -4,6 +4,7 @@ ghost use Rattle.numbering.specs.Layout.{InRange, layout_columns, layout_rows, s
 
 use crate::{Place, SocWrLayout};
 
+// Kept: a block is a number, its place in a table of sizes and what C hands over; an enum would be turned back to it at each use.
 // The blocks of columns, and of rows, in their order.
 pub const PG: usize = 0;
 
@@ -111,8 +112,8 @@ pub fn start_of(sizes: &[usize], block: usize) -> usize
     ensures upper_bound { result ≤ 1114112 }
 {
     let mut start = 0;
-    for j in 0..block {
-        start += sizes[j];
+    for size in &sizes[..block] {
+        start += *size;
     }
     start
 }
@@ -124,15 +125,11 @@ pub fn block_of(sizes: &[usize], p: usize) -> Place
     ensures item_in_bounds { result.item < length sizes.now }
 {
     let mut rest = p;
-    for block in 0..sizes.len() {
-        let here = sizes[block];
-        if rest < here {
-            return Place {
-                item: block,
-                at: rest,
-            };
+    for (item, size) in sizes.iter().enumerate() {
+        if rest < *size {
+            return Place { item, at: rest };
         }
-        rest -= here;
+        rest -= *size;
     }
     unreachable!()
 }

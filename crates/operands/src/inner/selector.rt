@@ -1,72 +1,68 @@
 // The selector of an operand.
-ghost use Rattle.std.specs.Prelude.{◌≡◌, true, ◌+◌, ◌≤◌, length};
-ghost use Rattle.lists.specs.UpTo.{listed, overlay};
-ghost use Rattle.refusals.specs.Refusals.{answer_if, left_in};
-ghost use Rattle.interface.specs.Selectors.{unit_starts, unit_weights, items_of};
-ghost use Rattle.numbering.specs.Layout.{InRange, layout_column};
-ghost use Rattle.numbering.specs.Laid.{net_of, Laid};
+ghost use Rattle.std.specs.Prelude.{◌≡◌, true, ◌≤◌, length};
+ghost use Rattle.lists.specs.UpTo.{overlay};
+ghost use Rattle.refusals.specs.Refusals.{answer_if};
+ghost use Rattle.interface.specs.Selectors.{items_of};
+ghost use Rattle.interface.specs.Lent.{Selects};
+ghost use Rattle.numbering.specs.Layout.{layout_column};
+ghost use Rattle.numbering.specs.Network.{grid};
 ghost use Rattle.elements.specs.Lengths.{has_operand, operand_len};
-ghost use Rattle.operands.specs.Selector.{dispatch_column, flow_of, voltage_at, selector_row, selector_rows, selector_elements, selector_sign, operand_cause};
+ghost use Rattle.operands.specs.Selector.{dispatch_column, flow_of, voltage_at, selector_row, selector_rows, selector_elements, selector_sign, lists_cause};
 
-use elements::inner::lengths::{has_operand, operand_count};
+use elements::inner::lengths::operand_length;
 use elements::inner::power::balance_row;
-use interface::inner::{count_from, selector_room, unit_items};
-use interface::{End, Items, Operand, Power, VoltageKind};
-use numbering::SocWrLayout;
-use refusals::{Refusal, refuse_unless};
+use interface::inner::count_from;
+use interface::{End, Items, Operand, Power, SelectorLists, VoltageKind};
+use numbering::Network;
+use refusals::Refusal;
 
-fn price_first(l: SocWrLayout, bytes: &[u8], power: Power) -> u32
-    requires { Laid l bytes.now }
-    ensures { result ≡ selector_row (net_of l bytes.now) (Operand.Price power) 0 }
+fn price_first(net: &Network<'_>, power: Power) -> u32
+    ensures { result ≡ selector_row (grid net.now) (Operand.Price power) 0 }
 {
-    l.column_count() + balance_row(l, power, 0)
+    net.layout.column_count() + balance_row(net.layout, power, 0)
 }
 
-fn dispatch_first(l: SocWrLayout, power: Power) -> u32
-    requires { InRange l }
-    ensures { result ≡ layout_column l (dispatch_column power 0) }
+fn dispatch_first(net: &Network<'_>, power: Power) -> u32
+    ensures { result ≡ layout_column net.now.layout (dispatch_column power 0) }
 {
     match power {
-        Power::Active => l.pg_column(0),
-        Power::Reactive => l.qg_column(0),
+        Power::Active => net.layout.pg_column(0),
+        Power::Reactive => net.layout.qg_column(0),
     }
 }
 
-fn flow_first(l: SocWrLayout, power: Power, end: End) -> u32
-    requires { InRange l }
-    ensures { result ≡ layout_column l (flow_of power end 0) }
+fn flow_first(net: &Network<'_>, power: Power, end: End) -> u32
+    ensures { result ≡ layout_column net.now.layout (flow_of power end 0) }
 {
     match (power, end) {
-        (Power::Active, End::From) => l.pf_column(0),
-        (Power::Active, End::To) => l.pt_column(0),
-        (Power::Reactive, End::From) => l.qf_column(0),
-        (Power::Reactive, End::To) => l.qt_column(0),
+        (Power::Active, End::From) => net.layout.pf_column(0),
+        (Power::Active, End::To) => net.layout.pt_column(0),
+        (Power::Reactive, End::From) => net.layout.qf_column(0),
+        (Power::Reactive, End::To) => net.layout.qt_column(0),
     }
 }
 
-fn voltage_first(l: SocWrLayout, bytes: &[u8], kind: VoltageKind) -> u32
-    requires { Laid l bytes.now }
-    ensures { result ≡ voltage_at (net_of l bytes.now) kind 0 }
+fn voltage_first(net: &Network<'_>, kind: VoltageKind) -> u32
+    ensures { result ≡ voltage_at (grid net.now) kind 0 }
 {
     match kind {
         VoltageKind::Magnitude => 0,
         VoltageKind::Angle => 0,
-        VoltageKind::Squared => l.w_column(0),
-        VoltageKind::ProductReal => l.wr_column(0),
-        VoltageKind::ProductImag => l.wi_column(0),
+        VoltageKind::Squared => net.layout.w_column(0),
+        VoltageKind::ProductReal => net.layout.wr_column(0),
+        VoltageKind::ProductImag => net.layout.wi_column(0),
     }
 }
 
 // The row of the first item; where there is none, of the place where it would stand.
-fn first_row(l: SocWrLayout, bytes: &[u8], o: Operand) -> u32
-    requires { Laid l bytes.now }
-    ensures { result ≡ selector_row (net_of l bytes.now) o 0 }
+fn first_row(net: &Network<'_>, o: Operand) -> u32
+    ensures { result ≡ selector_row (grid net.now) o 0 }
 {
     match o {
-        Operand::Price(power) => price_first(l, bytes, power),
-        Operand::Dispatch(power) => dispatch_first(l, power),
-        Operand::Flow { power, end } => flow_first(l, power, end),
-        Operand::Voltage(kind) => voltage_first(l, bytes, kind),
+        Operand::Price(power) => price_first(net, power),
+        Operand::Dispatch(power) => dispatch_first(net, power),
+        Operand::Flow { power, end } => flow_first(net, power, end),
+        Operand::Voltage(kind) => voltage_first(net, kind),
     }
 }
 
@@ -81,59 +77,34 @@ fn sign(o: Operand) -> f64
     }
 }
 
-fn write_rows(l: SocWrLayout, bytes: &[u8], o: Operand, rows: &mut [u32])
-    requires laid { Laid l bytes.now }
-    requires o_value { (has_operand o ≡ true) × (operand_len l.n l.m l.k o ≤ length rows.old) }
-    ensures { rows.new ≡ overlay (selector_rows (net_of l bytes.now) o) rows.old }
+fn write_rows(net: &Network<'_>, o: Operand, items: usize, rows: &mut [u32])
+    requires { (has_operand o ≡ true) × (items ≡ operand_len net.now.layout.n net.now.layout.m net.now.layout.k o) × (items ≤ length rows.old) }
+    ensures { rows.new ≡ overlay (selector_rows (grid net.now) o) rows.old }
 {
-    let items = operand_count(l.n, l.m, l.k, o);
-    count_from(rows, items, first_row(l, bytes, o));
+    count_from(rows, items, first_row(net, o));
 }
 
-// 9, 10.
-fn operand_cause(
-    l: SocWrLayout,
-    o: Operand,
-    starts: usize,
-    rows: usize,
-    weights: usize,
-    elements: usize,
-) -> Result<(), Refusal>
-    requires { InRange l }
-    ensures { result ≡ operand_cause l.n l.m l.k o starts rows weights elements }
+// How many items there are; 9, 10.
+fn operand_items(net: &Network<'_>, o: Operand, lists: &SelectorLists<'_>) -> Result<usize, Refusal>
+    ensures { result ≡ answer_if (lists_cause net.now.layout.n net.now.layout.m net.now.layout.k o lists.now) (operand_len net.now.layout.n net.now.layout.m net.now.layout.k o) }
 {
-    let items = operand_count(l.n, l.m, l.k, o);
-    refuse_unless(has_operand(o), Refusal::NotInSocWr)?;
-    selector_room(items, starts, rows, weights, elements)
+    let l = net.layout;
+    let items = operand_length(l.n, l.m, l.k, o).ok_or(Refusal::NotInSocWr)?;
+    lists.room(items)?;
+    Ok(items)
 }
 
-// The selector on the layout of accepted records.
+// The selector on a network.
 pub fn selector_of(
-    l: SocWrLayout,
-    bytes: &[u8],
+    net: &Network<'_>,
     o: Operand,
-    starts: &mut [u32],
-    rows: &mut [u32],
-    weights: &mut [f64],
-    elements: &mut [u32],
+    lists: &mut SelectorLists<'_>,
 ) -> Result<Items, Refusal>
-    requires { Laid l bytes.now }
-    ensures value { result ≡ answer_if (operand_cause l.n l.m l.k o (length starts.old) (length rows.old) (length weights.old) (length elements.old)) (items_of (operand_len l.n l.m l.k o) (selector_sign o)) }
-    ensures starts_after { starts.new ≡ left_in (operand_cause l.n l.m l.k o (length starts.old) (length rows.old) (length weights.old) (length elements.old)) (unit_starts (operand_len l.n l.m l.k o)) starts.old }
-    ensures rows_after { rows.new ≡ left_in (operand_cause l.n l.m l.k o (length starts.old) (length rows.old) (length weights.old) (length elements.old)) (selector_rows (net_of l bytes.now) o) rows.old }
-    ensures weights_after { weights.new ≡ left_in (operand_cause l.n l.m l.k o (length starts.old) (length rows.old) (length weights.old) (length elements.old)) (unit_weights (operand_len l.n l.m l.k o)) weights.old }
-    ensures elements_after { elements.new ≡ left_in (operand_cause l.n l.m l.k o (length starts.old) (length rows.old) (length weights.old) (length elements.old)) (selector_elements (operand_len l.n l.m l.k o)) elements.old }
+    ensures value { result ≡ answer_if (lists_cause net.now.layout.n net.now.layout.m net.now.layout.k o lists.old) (items_of (operand_len net.now.layout.n net.now.layout.m net.now.layout.k o) (selector_sign o)) }
+    ensures lists_after { Selects (lists_cause net.now.layout.n net.now.layout.m net.now.layout.k o lists.old) (operand_len net.now.layout.n net.now.layout.m net.now.layout.k o) (selector_rows (grid net.now) o) (selector_elements (operand_len net.now.layout.n net.now.layout.m net.now.layout.k o)) lists.old lists.new }
 {
-    operand_cause(
-        l,
-        o,
-        starts.len(),
-        rows.len(),
-        weights.len(),
-        elements.len(),
-    )?;
-    let items = operand_count(l.n, l.m, l.k, o);
-    write_rows(l, bytes, o, rows);
-    count_from(elements, items, 0);
-    Ok(unit_items(items, sign(o), starts, weights))
+    let items = operand_items(net, o, lists)?;
+    write_rows(net, o, items, lists.rows);
+    count_from(lists.elements, items, 0);
+    Ok(lists.start(items, sign(o)))
 }

@@ -1,15 +1,10 @@
--- The record check's cause, or else what the layout gives.
-use Rattle.refusals.proofs.Laws.{refused_by}
-use Rattle.numbering.proofs.OnePass.{new-laid}
+-- The record check's cause, or else what the network gives.
 use Rattle.rows.specs.Program.{linear}
 use Rattle.program.proofs.Answers.{floats_refused, pass_floats}
 use Rattle.program.proofs.program_q.Goals as goal
 
-pub returns-in_err-new : goal.returns-in_err-new
-returns-in_err-new c = floats_refused (refused_by _ _ c.new.ensures c.in_err-new.was) c.from_residual.ensures.1
-
-pub put_q-requires : goal.put_q-requires
-put_q-requires c = new-laid _ _ _ _ _ c.new.ensures c.in_ok-new.was
+pub returns-in_err-net : goal.returns-in_err-net
+returns-in_err-net c = floats_refused (rw c.in_err-net.was at c.new.ensures) c.from_residual.ensures.1
 
 pub returns : goal.returns
-returns c = pass_floats _ _ _ _ _ c.new.ensures c.in_ok-new.was linear c.put_q.ensures
+returns c = pass_floats (rw c.in_ok-net.was at c.new.ensures) linear c.put_q.ensures

@@ -6,4 +6,4 @@ use Rattle.record_check.specs.Counts.{limited_in}
 use Rattle.record_check.proofs.branch_causes.Given as goal
 
 abbrev pub invariant-loop-i : goal.invariant-loop-i
-invariant-loop-i l = (l.limited ≤ l.i) × (first_cause (branch_cause l.n l.b) l.first l.i ≡ passed) × (l.limited ≡ limited_in l.b l.first l.i)
+invariant-loop-i l = (l.limited ≤ l.i) × (first_cause (branch_cause l.n l.run.bytes.now) l.run.first l.i ≡ passed) × (l.limited ≡ limited_in l.run.bytes.now l.run.first l.i)

@@ -13,10 +13,10 @@ returns-in_err-count_cause c = ends _ c.from_residual.ensures.1 c.in_err-count_c
 pub check_counted-requires : goal.check_counted-requires
 check_counted-requires c =
     let b = counts_in_range _ _ _ _ (sym c.count_cause.ensures ∙ c.in_ok-count_cause.was) in
-    (b.0, b.1, b.2, b.3, omega (arith, c.min.ensures ∙ least c.args.e c.args.m))
+    (b.0, b.1, b.2, b.3, omega (arith, c.min.ensures ∙ least c.args.e c.args.case.m))
 
 pub returns : goal.returns
 unfolding check_of
 returns c =
-    went_on c.count_cause.ensures c.in_ok-count_cause.was (c.check_counted.ensures ∙ rw (c.min.ensures, least c.args.e c.args.m) refl)
+    went_on c.count_cause.ensures c.in_ok-count_cause.was (c.check_counted.ensures ∙ rw (c.min.ensures, least c.args.e c.args.case.m) refl)
     ∙ sym (or_else_assoc _ _ _)

@@ -7,5 +7,5 @@ use Rattle.record_check.proofs.gen_causes.Given as goal
 
 abbrev pub invariant-loop-i : goal.invariant-loop-i
 invariant-loop-i l =
-    (l.piecewise ≤ l.i) × (l.counts ≤ 65535 * l.i) × (first_cause (gen_cause l.n l.b) l.first l.i ≡ passed)
-    × (l.piecewise ≡ piecewise_in l.b l.first l.i) × (l.counts ≡ count_sum l.b l.first l.i)
+    (l.piecewise ≤ l.i) × (l.counts ≤ 65535 * l.i) × (first_cause (gen_cause l.n l.run.bytes.now) l.run.first l.i ≡ passed)
+    × (l.piecewise ≡ piecewise_in l.run.bytes.now l.run.first l.i) × (l.counts ≡ count_sum l.run.bytes.now l.run.first l.i)

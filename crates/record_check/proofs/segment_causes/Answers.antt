@@ -9,12 +9,15 @@ loop-i-init c = first-none _ _
 
 pub returns-in_err-segment_cause : goal.returns-in_err-segment_cause
 returns-in_err-segment_cause c =
-    leaves c.from_residual.ensures.1 ∙ sym (first_found _ _ _ c.loop-i.invariant c.segment_cause.ensures _ (omega arith) c.in_err-segment_cause.was)
+    let here = rw (c.record.ensures.bytes, c.record.ensures.place) at c.segment_cause.ensures in
+    leaves c.from_residual.ensures.1 ∙ sym (first_found _ _ _ c.loop-i.invariant here _ (omega arith) c.in_err-segment_cause.was)
 
 pub loop-i-preserved : goal.loop-i-preserved
-loop-i-preserved c = first_more _ _ _ c.loop-i.invariant c.segment_cause.ensures c.in_ok-segment_cause.was
+loop-i-preserved c =
+    let here = rw (c.record.ensures.bytes, c.record.ensures.place) at c.segment_cause.ensures in
+    first_more _ _ _ c.loop-i.invariant here c.in_ok-segment_cause.was
 
 pub returns : goal.returns
 returns c =
-    let e : c.loop-i.i ≡ c.args.count = omega arith in
+    let e : c.loop-i.i ≡ c.args.run.count = omega arith in
     rw (← e) (sym c.loop-i.invariant)

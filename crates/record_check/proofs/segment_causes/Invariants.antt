@@ -5,4 +5,4 @@ use Rattle.records.specs.Check.{segment_cause, first_cause}
 use Rattle.record_check.proofs.segment_causes.Given as goal
 
 abbrev pub invariant-loop-i : goal.invariant-loop-i
-invariant-loop-i l = first_cause (segment_cause l.b) l.first l.i ≡ passed
+invariant-loop-i l = first_cause (segment_cause l.run.bytes.now) l.run.first l.i ≡ passed

@@ -1,180 +1,124 @@
 // The branch columns of A.
 ghost use Rattle.std.specs.Prelude.{◌≡◌, ◌+◌, ◌*◌, ◌≤◌, ◌<◌};
 ghost use Rattle.lists.specs.UpTo.{listed, count};
-ghost use Rattle.lists.specs.Compressed.{cell_out, WroteCells};
 ghost use Rattle.numbering.specs.Numbering.{row_number};
 ghost use Rattle.numbering.specs.Layout.{layout_column};
-ghost use Rattle.numbering.specs.Laid.{net_of, Laid};
+ghost use Rattle.numbering.specs.Network.{grid};
 ghost use Rattle.numbering.specs.declared.ColumnName.TheVariants.{Wr, Wi};
 ghost use Rattle.matrix.specs.Columns.{wr_cells, wi_cells, flow_cells, balance_row, thermal_place};
-ghost use Rattle.cells.specs.Columns.{Columns};
-ghost use Rattle.record_columns.specs.Writers.{wr_angles, product_cells, flow};
+ghost use Rattle.cells.specs.Puts.{PutsCells, PutsColumns};
+ghost use Rattle.record_columns.specs.Writers.{wr_angles, wi_angles, product_cells};
 
 use super::generators::put_bounds;
 use branch::Products;
 use branch::inner::ohm::{wi_products, wr_products};
 use branch::inner::places::{end_bus, ohm_row};
 use branch::inner::{conic_angle_bound_active, series};
-use cells::inner::{put, put_if, put_nonzero};
-use lists::inner::store;
-use numbering::SocWrLayout;
+use cells::Cells;
+use numbering::Network;
 use rows::OhmRow;
 
-// The four Ohm rows of branch e.
-fn put_products(
-    rows: &mut [u32],
-    vals: &mut [f64],
-    at: usize,
-    l: SocWrLayout,
-    bytes: &[u8],
-    e: usize,
-    p: Products,
-) -> usize
-    requires laid { Laid l bytes.now }
-    requires e_lt_m { (e < l.m) × (at < 1000000) }
-    ensures wrote_cells { WroteCells (product_cells (net_of l bytes.now) e p) (cell_out rows.old vals.old at) (cell_out rows.new vals.new result) }
-    ensures upper_bound { result ≤ at + 4 }
+// The four Ohm rows of branch e. Called twice, it would be a call of its own, which takes a twentieth of A's time.
+#[inline(always)]
+fn put_products(cells: &mut Cells<'_>, net: &Network<'_>, e: usize, p: Products)
+    requires { (e < net.now.layout.m) × (cells.old.at < 1000000) }
+    ensures puts { PutsCells (product_cells (grid net.now) e p) cells.old cells.new }
+    ensures upper_bound { cells.new.at ≤ cells.old.at + 4 }
 {
-    let r1 = l.ohm_pf_row(e);
-    let r2 = l.ohm_qf_row(e);
-    let r3 = l.ohm_pt_row(e);
-    let r4 = l.ohm_qt_row(e);
-    let a1 = put_nonzero(rows, vals, at, r1, p.pf);
-    let a2 = put_nonzero(rows, vals, a1, r2, p.qf);
-    let a3 = put_nonzero(rows, vals, a2, r3, p.pt);
-    put_nonzero(rows, vals, a3, r4, p.qt)
+    cells.put_nonzero(net.layout.ohm_pf_row(e), p.pf);
+    cells.put_nonzero(net.layout.ohm_qf_row(e), p.qf);
+    cells.put_nonzero(net.layout.ohm_pt_row(e), p.pt);
+    cells.put_nonzero(net.layout.ohm_qt_row(e), p.qt);
 }
 
 // The angle rows in the wr column. The tangents are read only where the rows are active.
-fn put_wr_angles(
-    rows: &mut [u32],
-    vals: &mut [f64],
-    at: usize,
-    l: SocWrLayout,
-    bytes: &[u8],
-    e: usize,
-) -> usize
-    requires laid { Laid l bytes.now }
-    requires e_lt_m { (e < l.m) × (at < 1100000) }
-    ensures wrote_cells { WroteCells (wr_angles (net_of l bytes.now) e) (cell_out rows.old vals.old at) (cell_out rows.new vals.new result) }
-    ensures upper_bound { result ≤ at + 2 }
+fn put_wr_angles(cells: &mut Cells<'_>, net: &Network<'_>, e: usize)
+    requires { (e < net.now.layout.m) × (cells.old.at < 1100000) }
+    ensures puts { PutsCells (wr_angles (grid net.now) e) cells.old cells.new }
+    ensures upper_bound { cells.new.at ≤ cells.old.at + 2 }
 {
-    let r = l.n + e;
-    if conic_angle_bound_active(bytes, r) {
-        let upper = l.angub_row(e);
-        let lower = l.anglb_row(e);
-        let tmax = records::inner::tan_angmax(bytes, r);
-        let tmin = records::inner::tan_angmin(bytes, r);
-        let next = put_nonzero(rows, vals, at, upper, -tmax);
-        return put_nonzero(rows, vals, next, lower, tmin);
+    let r = net.branch(e);
+    if conic_angle_bound_active(r) {
+        cells.put_nonzero(net.layout.angub_row(e), -r.tan_angmax());
+        cells.put_nonzero(net.layout.anglb_row(e), r.tan_angmin());
     }
-    at
 }
 
-fn put_wr(
-    rows: &mut [u32],
-    vals: &mut [f64],
-    at: usize,
-    l: SocWrLayout,
-    bytes: &[u8],
-    e: usize,
-) -> usize
-    requires laid { Laid l bytes.now }
-    requires e_lt_m { (e < l.m) × (at < 1000000) }
-    ensures wrote_cells { WroteCells (wr_cells (net_of l bytes.now) e) (cell_out rows.old vals.old at) (cell_out rows.new vals.new result) }
-    ensures upper_bound { result ≤ at + 7 }
+fn put_wr(cells: &mut Cells<'_>, net: &Network<'_>, e: usize)
+    requires { (e < net.now.layout.m) × (cells.old.at < 1000000) }
+    ensures puts { PutsCells (wr_cells (grid net.now) e) cells.old cells.new }
+    ensures upper_bound { cells.new.at ≤ cells.old.at + 7 }
 {
-    let record = l.n + e;
-    let p = wr_products(series(bytes, record));
-    let cone = l.jabr_row(e, 1);
-    let a1 = put_products(rows, vals, at, l, bytes, e, p);
-    let a2 = put_wr_angles(rows, vals, a1, l, bytes, e);
-    put(rows, vals, a2, cone, -1.0)
+    let t = series(net.branch(e));
+    put_products(cells, net, e, wr_products(t));
+    put_wr_angles(cells, net, e);
+    cells.put(net.layout.jabr_row(e, 1), -1.0);
 }
 
-fn put_wi(
-    rows: &mut [u32],
-    vals: &mut [f64],
-    at: usize,
-    l: SocWrLayout,
-    bytes: &[u8],
-    e: usize,
-) -> usize
-    requires laid { Laid l bytes.now }
-    requires e_lt_m { (e < l.m) × (at < 1000000) }
-    ensures wrote_cells { WroteCells (wi_cells (net_of l bytes.now) e) (cell_out rows.old vals.old at) (cell_out rows.new vals.new result) }
-    ensures upper_bound { result ≤ at + 7 }
+// The angle rows in the wi column.
+fn put_wi_angles(cells: &mut Cells<'_>, net: &Network<'_>, e: usize)
+    requires { (e < net.now.layout.m) × (cells.old.at < 1100000) }
+    ensures puts { PutsCells (wi_angles (grid net.now) e) cells.old cells.new }
+    ensures upper_bound { cells.new.at ≤ cells.old.at + 2 }
 {
-    let record = l.n + e;
-    let p = wi_products(series(bytes, record));
-    let on = conic_angle_bound_active(bytes, record);
-    let upper = l.angub_row(e);
-    let lower = l.anglb_row(e);
-    let cone = l.jabr_row(e, 2);
-    let a1 = put_products(rows, vals, at, l, bytes, e, p);
-    let a2 = put_bounds(rows, vals, a1, on, upper, lower);
-    put(rows, vals, a2, cone, -1.0)
-}
-
-// Kept: put_wrs, put_wis and put_qgs share four lines; one loop for them would take the writer as a closure with a contract longer than those.
-pub fn put_wrs(
-    starts: &mut [u32],
-    rows: &mut [u32],
-    vals: &mut [f64],
-    at: usize,
-    l: SocWrLayout,
-    bytes: &[u8],
-) -> usize
-    requires laid { Laid l bytes.now }
-    requires at_bound { at < 600000 }
-    ensures columns { Columns (listed l.m (wr_cells (net_of l bytes.now))) (layout_column l (Wr 0)) starts.old (cell_out rows.old vals.old at) starts.new (cell_out rows.new vals.new result) }
-    ensures upper_bound { result ≤ at + 7 * l.m }
-{
-    let col = l.wr_column(0) as usize;
-    let mut next = at;
-    for e in 0..l.m {
-        next = put_wr(rows, vals, next, l, bytes, e);
-        store(starts, col + e + 1, next as u32);
+    if conic_angle_bound_active(net.branch(e)) {
+        put_bounds(cells, net.layout.angub_row(e), net.layout.anglb_row(e));
     }
-    next
 }
 
-pub fn put_wis(
-    starts: &mut [u32],
-    rows: &mut [u32],
-    vals: &mut [f64],
-    at: usize,
-    l: SocWrLayout,
-    bytes: &[u8],
-) -> usize
-    requires laid { Laid l bytes.now }
-    requires at_bound { at < 600000 }
-    ensures columns { Columns (listed l.m (wi_cells (net_of l bytes.now))) (layout_column l (Wi 0)) starts.old (cell_out rows.old vals.old at) starts.new (cell_out rows.new vals.new result) }
-    ensures upper_bound { result ≤ at + 7 * l.m }
+// Kept: the likeness with put_wr is its four steps, of which all but the series differ.
+fn put_wi(cells: &mut Cells<'_>, net: &Network<'_>, e: usize)
+    requires { (e < net.now.layout.m) × (cells.old.at < 1000000) }
+    ensures puts { PutsCells (wi_cells (grid net.now) e) cells.old cells.new }
+    ensures upper_bound { cells.new.at ≤ cells.old.at + 7 }
 {
-    let col = l.wi_column(0) as usize;
-    let mut next = at;
-    for e in 0..l.m {
-        next = put_wi(rows, vals, next, l, bytes, e);
-        store(starts, col + e + 1, next as u32);
+    let t = series(net.branch(e));
+    put_products(cells, net, e, wi_products(t));
+    put_wi_angles(cells, net, e);
+    cells.put(net.layout.jabr_row(e, 2), -1.0);
+}
+
+// Kept: put_wrs, put_wis, put_flows, put_qgs: one loop would take the writer as a closure with its whole contract.
+pub fn put_wrs(starts: &mut [u32], cells: &mut Cells<'_>, net: &Network<'_>)
+    requires { cells.old.at < 600000 }
+    ensures columns { PutsColumns (listed net.now.layout.m (wr_cells (grid net.now))) (layout_column net.now.layout (Wr 0)) starts.old cells.old starts.new cells.new }
+    ensures upper_bound { cells.new.at ≤ cells.old.at + 7 * net.now.layout.m }
+{
+    // By value: behind the reference the counts would be read again after each store.
+    let net = *net;
+    let col = net.layout.wr_column(0) as usize;
+    for e in 0..net.layout.m {
+        put_wr(cells, &net, e);
+        cells.end_column(starts, col + e);
     }
-    next
+}
+
+pub fn put_wis(starts: &mut [u32], cells: &mut Cells<'_>, net: &Network<'_>)
+    requires { cells.old.at < 600000 }
+    ensures columns { PutsColumns (listed net.now.layout.m (wi_cells (grid net.now))) (layout_column net.now.layout (Wi 0)) starts.old cells.old starts.new cells.new }
+    ensures upper_bound { cells.new.at ≤ cells.old.at + 7 * net.now.layout.m }
+{
+    // By value, as in put_wrs.
+    let net = *net;
+    let col = net.layout.wi_column(0) as usize;
+    for e in 0..net.layout.m {
+        put_wi(cells, &net, e);
+        cells.end_column(starts, col + e);
+    }
 }
 
 // The balance row that a flow leaves by, and its place among a limited branch's rows.
-fn balance_row(q: OhmRow, l: SocWrLayout, bytes: &[u8], i: usize) -> u32
-    requires laid { Laid l bytes.now }
-    requires i_lt_n { i < l.n }
-    ensures { result ≡ row_number (net_of l bytes.now) (balance_row q i) }
+fn balance_row(q: OhmRow, net: &Network<'_>, i: usize) -> u32
+    requires { i < net.now.layout.n }
+    ensures { result ≡ row_number (grid net.now) (balance_row q i) }
 {
     match q {
-        OhmRow::Pf => l.pbal_row(i),
-        OhmRow::Qf => l.qbal_row(i),
-        OhmRow::Pt => l.pbal_row(i),
-        OhmRow::Qt => l.qbal_row(i),
+        OhmRow::Pf | OhmRow::Pt => net.layout.pbal_row(i),
+        OhmRow::Qf | OhmRow::Qt => net.layout.qbal_row(i),
     }
 }
 
+// Kept: bus_columns' `place` has other numbers for the four rows.
 fn thermal_place(q: OhmRow) -> usize
     ensures value { result ≡ thermal_place q }
     ensures upper_bound { result < 6 }
@@ -187,71 +131,38 @@ fn thermal_place(q: OhmRow) -> usize
     }
 }
 
-fn put_flow_cells(
-    rows: &mut [u32],
-    vals: &mut [f64],
-    at: usize,
-    balance: u32,
-    ohm: u32,
-    on: bool,
-    thermal: u32,
-) -> usize
-    requires { at < 2000000 }
-    ensures wrote_cells { WroteCells (flow balance ohm on thermal) (cell_out rows.old vals.old at) (cell_out rows.new vals.new result) }
-    ensures upper_bound { result ≤ at + 3 }
-{
-    let a1 = put(rows, vals, at, balance, -1.0);
-    let a2 = put(rows, vals, a1, ohm, 1.0);
-    put_if(rows, vals, a2, on, thermal, -1.0)
-}
-
 // The column of a flow of branch e, which rank limited branches come before.
-fn put_flow(
-    rows: &mut [u32],
-    vals: &mut [f64],
-    at: usize,
-    l: SocWrLayout,
-    bytes: &[u8],
-    q: OhmRow,
-    e: usize,
-    rank: usize,
-) -> usize
-    requires laid { Laid l bytes.now }
-    requires e_lt_m { (e < l.m) × (at < 1000000) }
-    requires rank_value { rank ≡ count e (net_of l bytes.now).limited }
-    ensures wrote_cells { WroteCells (flow_cells (net_of l bytes.now) q e) (cell_out rows.old vals.old at) (cell_out rows.new vals.new result) }
-    ensures upper_bound { result ≤ at + 3 }
+fn put_flow(cells: &mut Cells<'_>, net: &Network<'_>, q: OhmRow, e: usize, rank: usize)
+    requires e_lt_m { (e < net.now.layout.m) × (cells.old.at < 1000000) }
+    requires rank_value { rank ≡ count e (grid net.now).limited }
+    ensures puts { PutsCells (flow_cells (grid net.now) q e) cells.old cells.new }
+    ensures upper_bound { cells.new.at ≤ cells.old.at + 3 }
 {
-    let thermal = l.thermal_row(rank, thermal_place(q));
-    let on = records::inner::thermal_limit_active(bytes, l.n + e);
-    let bus = end_bus(q, l, bytes, e);
-    let balance = balance_row(q, l, bytes, bus);
-    let ohm = ohm_row(q, l, bytes, e);
-    put_flow_cells(rows, vals, at, balance, ohm, on, thermal)
+    cells.put(balance_row(q, net, end_bus(q, net, e)), -1.0);
+    cells.put(ohm_row(q, net, e), 1.0);
+    if net.branch(e).thermal_limit_active() {
+        cells.put(net.layout.thermal_row(rank, thermal_place(q)), -1.0);
+    }
 }
 
 // The columns of one flow, from column col on.
 pub fn put_flows(
     starts: &mut [u32],
-    rows: &mut [u32],
-    vals: &mut [f64],
-    col: usize,
-    at: usize,
-    l: SocWrLayout,
-    bytes: &[u8],
+    cells: &mut Cells<'_>,
+    net: &Network<'_>,
     q: OhmRow,
-) -> usize
-    requires laid { Laid l bytes.now }
-    requires at_bound { (at < 900000) × (col < 900000) }
-    ensures columns { Columns (listed l.m (flow_cells (net_of l bytes.now) q)) col starts.old (cell_out rows.old vals.old at) starts.new (cell_out rows.new vals.new result) }
-    ensures upper_bound { result ≤ at + 3 * l.m }
+    col: usize,
+)
+    requires { (cells.old.at < 900000) × (col < 900000) }
+    ensures columns { PutsColumns (listed net.now.layout.m (flow_cells (grid net.now) q)) col starts.old cells.old starts.new cells.new }
+    ensures upper_bound { cells.new.at ≤ cells.old.at + 3 * net.now.layout.m }
 {
-    let mut next = at;
+    // By value, as in put_wrs.
+    let net = *net;
     let mut rank = 0;
-    for e in 0..l.m {
-        next = put_flow(rows, vals, next, l, bytes, q, e, rank);
-        store(starts, col + e + 1, next as u32);
-        rank += usize::from(records::inner::thermal_limit_active(bytes, l.n + e));
+    for e in 0..net.layout.m {
+        put_flow(cells, &net, q, e, rank);
+        cells.end_column(starts, col + e);
+        rank += usize::from(net.branch(e).thermal_limit_active());
     }
-    next
 }

@@ -1,244 +1,136 @@
 // The generator columns of A, and the cost columns.
-ghost use Rattle.std.specs.Prelude.{◌≡◌, [], ◌∷◌, ◌+◌, ◌*◌, ◌≤◌, ◌<◌, length};
-ghost use Rattle.lists.specs.UpTo.{each, listed, when, sum};
-ghost use Rattle.lists.specs.Compressed.{cell_out, WroteCells};
+ghost use Rattle.std.specs.Prelude.{◌≡◌, ◌+◌, ◌*◌, ◌≤◌, ◌<◌};
+ghost use Rattle.lists.specs.UpTo.{each, listed, sum};
+ghost use Rattle.records.specs.Fields.{capability_of};
 ghost use Rattle.matrix.specs.Columns.{pg_cells, qg_cells};
-ghost use Rattle.cells.specs.Columns.{Columns};
-ghost use Rattle.record_columns.specs.Writers.{bounds, slopes, pg_head, ones, cost_turn};
-ghost use Rattle.numbering.specs.Layout.{layout_column};
-ghost use Rattle.numbering.specs.Laid.{net_of, Laid};
+ghost use Rattle.cells.specs.Puts.{PutsCells, PutsColumns};
+ghost use Rattle.record_columns.specs.Writers.{pair, head, slopes, ones, cost_turn};
+ghost use Rattle.numbering.specs.Layout.{layout_column, layout_row};
+ghost use Rattle.numbering.specs.Network.{grid};
 ghost use Rattle.numbering.specs.declared.ColumnName.TheVariants.{Pg, Qg, CostOf};
+ghost use Rattle.numbering.specs.declared.RowName.TheVariants.{Segment};
 
-use cells::inner::{put, put_nonzero};
-use lists::inner::store;
-use numbering::SocWrLayout;
+use cells::Cells;
+use numbering::Network;
+use records::Record;
 
-// The rows of an upper and a lower bound, where they are active.
-pub fn put_bounds(
-    rows: &mut [u32],
-    vals: &mut [f64],
-    at: usize,
-    on: bool,
-    upper: u32,
-    lower: u32,
-) -> usize
-    requires { at < 2000000 }
-    ensures wrote_cells { WroteCells (bounds on upper lower) (cell_out rows.old vals.old at) (cell_out rows.new vals.new result) }
-    ensures upper_bound { result ≤ at + 2 }
+// The rows of an upper and a lower bound.
+pub fn put_bounds(cells: &mut Cells<'_>, upper: u32, lower: u32)
+    requires { cells.old.at < 2000000 }
+    ensures puts { PutsCells (pair upper lower) cells.old cells.new }
+    ensures upper_bound { cells.new.at ≤ cells.old.at + 2 }
 {
-    if on {
-        let next = put(rows, vals, at, upper, 1.0);
-        return put(rows, vals, next, lower, -1.0);
-    }
-    at
+    cells.put(upper, 1.0);
+    cells.put(lower, -1.0);
 }
 
-// The slopes of count segments: their records start at first, their rows at row.
-fn put_slopes(
-    rows: &mut [u32],
-    vals: &mut [f64],
-    at: usize,
-    bytes: &[u8],
-    first: usize,
-    row: usize,
-    count: usize,
-) -> usize
-    requires at_bound { (at < 2000000) × (count ≤ 65536) × (row < 1000000) }
-    requires count_in_bounds { 128 * (first + count) ≤ length bytes.now }
-    ensures wrote_cells { WroteCells (each count (slopes bytes.now first row)) (cell_out rows.old vals.old at) (cell_out rows.new vals.new result) }
-    ensures upper_bound { result ≤ at + count }
+// A generator's balance row, and the rows of its bounds where they are active.
+fn put_head(cells: &mut Cells<'_>, r: Record<'_>, balance: u32, upper: u32, lower: u32)
+    requires { cells.old.at < 1000000 }
+    ensures puts { PutsCells (head (capability_of r.entry.bytes.now r.entry.r) balance upper lower) cells.old cells.new }
+    ensures upper_bound { cells.new.at ≤ cells.old.at + 3 }
 {
-    let mut next = at;
+    cells.put(balance, 1.0);
+    if r.generator_capability_active() {
+        put_bounds(cells, upper, lower);
+    }
+}
+
+// The slopes of count segments, of which the first is segment seg of all.
+fn put_slopes(cells: &mut Cells<'_>, net: &Network<'_>, seg: usize, count: usize)
+    requires { (cells.old.at < 1100000) × (seg + count ≤ net.now.layout.s) }
+    ensures puts { PutsCells (each count (slopes net.now.bytes.now (net.now.layout.n + net.now.layout.m + net.now.layout.k + seg) (layout_row net.now.layout (Segment seg 0)))) cells.old cells.new }
+    ensures upper_bound { cells.new.at ≤ cells.old.at + count }
+{
+    let row = net.layout.segment_row(seg) as usize;
     for t in 0..count {
-        let v = records::inner::slope(bytes, first + t);
-        next = put_nonzero(rows, vals, next, (row + t) as u32, v);
+        let v = net.segment(seg + t).slope();
+        cells.put_nonzero((row + t) as u32, v);
     }
-    next
 }
 
-// A generator's balance row and bounds: active, and reactive.
-// Kept: the two differ in three rows and their specs; a parameter for the power would be matched at each of these.
-fn put_pg_head(
-    rows: &mut [u32],
-    vals: &mut [f64],
-    at: usize,
-    l: SocWrLayout,
-    bytes: &[u8],
-    g: usize,
-) -> usize
-    requires laid { Laid l bytes.now }
-    requires g_lt_k { (g < l.k) × (at < 1000000) }
-    ensures wrote_cells { WroteCells (pg_head (net_of l bytes.now) g) (cell_out rows.old vals.old at) (cell_out rows.new vals.new result) }
-    ensures upper_bound { result ≤ at + 3 }
+// The pg column of generator g, whose segments come after seg others.
+fn put_pg(cells: &mut Cells<'_>, net: &Network<'_>, g: usize, seg: usize)
+    requires g_lt_k { (g < net.now.layout.k) × (cells.old.at < 1000000) }
+    requires seg_value { seg ≡ sum g (grid net.now).segments }
+    ensures puts { PutsCells (pg_cells (grid net.now) g) cells.old cells.new }
+    ensures upper_bound { cells.new.at ≤ cells.old.at + 3 + (grid net.now).segments g }
 {
-    let r = l.n + l.m + g;
-    let bus = records::inner::gen_bus(bytes, r);
-    let on = records::inner::generator_capability_active(bytes, r);
-    let balance = l.pbal_row(bus as usize);
-    let upper = l.pgub_row(g);
-    let lower = l.pglb_row(g);
-    let next = put(rows, vals, at, balance, 1.0);
-    put_bounds(rows, vals, next, on, upper, lower)
+    let l = net.layout;
+    let r = net.generator(g);
+    let balance = l.pbal_row(r.gen_bus() as usize);
+    put_head(cells, r, balance, l.pgub_row(g), l.pglb_row(g));
+    put_slopes(cells, net, seg, r.segments());
 }
 
-fn put_qg(
-    rows: &mut [u32],
-    vals: &mut [f64],
-    at: usize,
-    l: SocWrLayout,
-    bytes: &[u8],
-    g: usize,
-) -> usize
-    requires laid { Laid l bytes.now }
-    requires g_lt_k { (g < l.k) × (at < 1000000) }
-    ensures wrote_cells { WroteCells (qg_cells (net_of l bytes.now) g) (cell_out rows.old vals.old at) (cell_out rows.new vals.new result) }
-    ensures upper_bound { result ≤ at + 3 }
+// The qg column of generator g.
+fn put_qg(cells: &mut Cells<'_>, net: &Network<'_>, g: usize)
+    requires { (g < net.now.layout.k) × (cells.old.at < 1000000) }
+    ensures puts { PutsCells (qg_cells (grid net.now) g) cells.old cells.new }
+    ensures upper_bound { cells.new.at ≤ cells.old.at + 3 }
 {
-    let r = l.n + l.m + g;
-    let bus = records::inner::gen_bus(bytes, r);
-    let on = records::inner::generator_capability_active(bytes, r);
-    let balance = l.qbal_row(bus as usize);
-    let upper = l.qgub_row(g);
-    let lower = l.qglb_row(g);
-    let next = put(rows, vals, at, balance, 1.0);
-    put_bounds(rows, vals, next, on, upper, lower)
-}
-
-// The pg column of generator g, of which count segments come after seg others.
-fn put_pg(
-    rows: &mut [u32],
-    vals: &mut [f64],
-    at: usize,
-    l: SocWrLayout,
-    bytes: &[u8],
-    g: usize,
-    seg: usize,
-    count: usize,
-) -> usize
-    requires laid { Laid l bytes.now }
-    requires g_lt_k { (g < l.k) × (at < 1000000) }
-    requires seg_value { (seg ≡ sum g (net_of l bytes.now).segments) × (count ≡ (net_of l bytes.now).segments g) }
-    ensures wrote_cells { WroteCells (pg_cells (net_of l bytes.now) g) (cell_out rows.old vals.old at) (cell_out rows.new vals.new result) }
-    ensures upper_bound { result ≤ at + 3 + count }
-{
-    let first = l.n + l.m + l.k + seg;
-    let row = l.segment_row(seg) as usize;
-    let next = put_pg_head(rows, vals, at, l, bytes, g);
-    put_slopes(rows, vals, next, bytes, first, row, count)
+    let l = net.layout;
+    let r = net.generator(g);
+    let balance = l.qbal_row(r.gen_bus() as usize);
+    put_head(cells, r, balance, l.qgub_row(g), l.qglb_row(g));
 }
 
 // The pg columns.
-pub fn put_pgs(
-    starts: &mut [u32],
-    rows: &mut [u32],
-    vals: &mut [f64],
-    at: usize,
-    l: SocWrLayout,
-    bytes: &[u8],
-) -> usize
-    requires laid { Laid l bytes.now }
-    requires at_value { at ≡ 0 }
-    ensures columns { Columns (listed l.k (pg_cells (net_of l bytes.now))) (layout_column l (Pg 0)) starts.old (cell_out rows.old vals.old at) starts.new (cell_out rows.new vals.new result) }
-    ensures upper_bound { result ≤ 3 * l.k + l.s }
+pub fn put_pgs(starts: &mut [u32], cells: &mut Cells<'_>, net: &Network<'_>)
+    requires { cells.old.at < 900000 }
+    ensures columns { PutsColumns (listed net.now.layout.k (pg_cells (grid net.now))) (layout_column net.now.layout (Pg 0)) starts.old cells.old starts.new cells.new }
+    ensures upper_bound { cells.new.at ≤ cells.old.at + 3 * net.now.layout.k + net.now.layout.s }
 {
-    let first = l.n + l.m;
-    let col = l.pg_column(0) as usize;
-    let mut next = at;
+    let col = net.layout.pg_column(0) as usize;
     let mut seg = 0;
-    for g in 0..l.k {
-        let count = records::inner::segments(bytes, first + g);
-        next = put_pg(rows, vals, next, l, bytes, g, seg, count);
-        store(starts, col + g + 1, next as u32);
-        seg += count;
+    for g in 0..net.layout.k {
+        put_pg(cells, net, g, seg);
+        cells.end_column(starts, col + g);
+        seg += net.generator(g).segments();
     }
-    next
 }
 
 // The qg columns.
-pub fn put_qgs(
-    starts: &mut [u32],
-    rows: &mut [u32],
-    vals: &mut [f64],
-    at: usize,
-    l: SocWrLayout,
-    bytes: &[u8],
-) -> usize
-    requires laid { Laid l bytes.now }
-    requires at_bound { at < 900000 }
-    ensures columns { Columns (listed l.k (qg_cells (net_of l bytes.now))) (layout_column l (Qg 0)) starts.old (cell_out rows.old vals.old at) starts.new (cell_out rows.new vals.new result) }
-    ensures upper_bound { result ≤ at + 3 * l.k }
+pub fn put_qgs(starts: &mut [u32], cells: &mut Cells<'_>, net: &Network<'_>)
+    requires { cells.old.at < 900000 }
+    ensures columns { PutsColumns (listed net.now.layout.k (qg_cells (grid net.now))) (layout_column net.now.layout (Qg 0)) starts.old cells.old starts.new cells.new }
+    ensures upper_bound { cells.new.at ≤ cells.old.at + 3 * net.now.layout.k }
 {
-    let col = l.qg_column(0) as usize;
-    let mut next = at;
-    for g in 0..l.k {
-        next = put_qg(rows, vals, next, l, bytes, g);
-        store(starts, col + g + 1, next as u32);
+    let col = net.layout.qg_column(0) as usize;
+    for g in 0..net.layout.k {
+        put_qg(cells, net, g);
+        cells.end_column(starts, col + g);
     }
-    next
 }
 
 // -1 in each of count rows from row on.
-fn put_ones(rows: &mut [u32], vals: &mut [f64], at: usize, row: usize, count: usize) -> usize
-    requires { (at < 2000000) × (count ≤ 65536) × (row < 1000000) }
-    ensures wrote_cells { WroteCells (each count (ones row)) (cell_out rows.old vals.old at) (cell_out rows.new vals.new result) }
-    ensures upper_bound { result ≤ at + count }
+fn put_ones(cells: &mut Cells<'_>, row: usize, count: usize)
+    requires { (cells.old.at < 2000000) × (count ≤ 65536) × (row < 1000000) }
+    ensures puts { PutsCells (each count (ones row)) cells.old cells.new }
+    ensures upper_bound { cells.new.at ≤ cells.old.at + count }
 {
-    let mut next = at;
     for t in 0..count {
-        next = put(rows, vals, next, (row + t) as u32, -1.0);
+        cells.put((row + t) as u32, -1.0);
     }
-    next
 }
 
-// A generator's cost column, if it has one.
-fn put_cost(
-    starts: &mut [u32],
-    rows: &mut [u32],
-    vals: &mut [f64],
-    c: usize,
-    at: usize,
-    on: bool,
-    row: usize,
-    count: usize,
-) -> usize
-    requires at_bound { (at < 2000000) × (count ≤ 65536) × (row < 1000000) }
-    requires c_bound { c < 1000000 }
-    ensures columns { Columns (when on (each count (ones row) ∷ [])) c starts.old (cell_out rows.old vals.old at) starts.new (cell_out rows.new vals.new result) }
-    ensures upper_bound { result ≤ at + count }
+// The cost columns: one for each piecewise generator.
+pub fn put_costs(starts: &mut [u32], cells: &mut Cells<'_>, net: &Network<'_>)
+    requires { cells.old.at < 900000 }
+    ensures columns { PutsColumns (each net.now.layout.k (cost_turn (grid net.now))) (layout_column net.now.layout (CostOf 0)) starts.old cells.old starts.new cells.new }
+    ensures upper_bound { cells.new.at ≤ cells.old.at + net.now.layout.s }
 {
-    if on {
-        let next = put_ones(rows, vals, at, row, count);
-        store(starts, c + 1, next as u32);
-        return next;
-    }
-    at
-}
-
-// The cost columns.
-pub fn put_costs(
-    starts: &mut [u32],
-    rows: &mut [u32],
-    vals: &mut [f64],
-    at: usize,
-    l: SocWrLayout,
-    bytes: &[u8],
-) -> usize
-    requires laid { Laid l bytes.now }
-    requires at_bound { at < 900000 }
-    ensures columns { Columns (each l.k (cost_turn (net_of l bytes.now))) (layout_column l (CostOf 0)) starts.old (cell_out rows.old vals.old at) starts.new (cell_out rows.new vals.new result) }
-    ensures upper_bound { result ≤ at + l.s }
-{
-    let base = l.segment_row(0) as usize;
-    let mut c = l.cost_column(0) as usize;
-    let mut next = at;
+    let base = net.layout.segment_row(0) as usize;
+    let mut c = net.layout.cost_column(0) as usize;
     let mut seg = 0;
-    for g in 0..l.k {
-        let r = l.n + l.m + g;
-        let on = records::inner::piecewise(bytes, r);
-        let count = records::inner::segments(bytes, r);
-        next = put_cost(starts, rows, vals, c, next, on, base + seg, count);
-        c += usize::from(on);
+    for g in 0..net.layout.k {
+        let r = net.generator(g);
+        let count = r.segments();
+        if r.piecewise() {
+            put_ones(cells, base + seg, count);
+            cells.end_column(starts, c);
+            c += 1;
+        }
         seg += count;
     }
-    next
 }

@@ -1,4 +1,5 @@
 // The fields of a record, as methods.
+// Kept: a field has a method of its own, since each is a name, a place in the record and a type, and each is one call.
 ghost use Rattle.std.specs.Prelude.{◌≡◌, ◌<◌};
 ghost use Rattle.records.specs.Fields.{kind_of, flags_of, count_of, id_of, first_of, second_of, bits_of, float_of, flag_bit, voltage_bound_of, gs_of, bs_of, pd_of, qd_of, vm_min_of, vm_max_of, limited_of, angle_bound_of, from_of, to_of, g_of, b_of, g_fr_of, b_fr_of, g_to_of, b_to_of, tap_of, cos_shift_of, sin_shift_of, angmin_of, angmax_of, tan_angmin_of, tan_angmax_of, rate_a_of, capability_of, piecewise_of, segments_of, gen_bus_of, pmin_of, pmax_of, qmin_of, qmax_of, cq_of, cl_of, cc_of, slope_of, intercept_of};
 
@@ -7,6 +8,7 @@ use crate::inner::{byte_at, float_at, read16, read32, read64};
 
 impl<'a> Record<'a> {
     // Every kind.
+    // Kept: `kind` answers the byte as it is, which may be of no kind; a Kind would need an Option around it, and another test.
     #[tactic(auto, unfolding(crate::specs::Fields::kind_of))]
     pub fn kind(self) -> u16
         ensures { result ≡ kind_of self.entry.bytes.now self.entry.r }

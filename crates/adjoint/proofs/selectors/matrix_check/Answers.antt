@@ -8,17 +8,17 @@ use Rattle.adjoint.proofs.selectors.matrix_check.Goals as goal
 pub returns-in_err-refuse_unless : goal.returns-in_err-refuse_unless
 unfolding matrix_check
 returns-in_err-refuse_unless c =
-    let fits = rw c.selector_fits.ensures at c.refuse_unless.ensures in
+    let fits = rw c.fits.ensures at c.refuse_unless.ensures in
     ends _ c.from_residual.ensures.1 c.in_err-refuse_unless.was fits
 
 pub overflow_mul-dim : goal.overflow_mul-dim
 overflow_mul-dim c =
-    let fits = rw c.selector_fits.ensures at c.refuse_unless.ensures in
+    let fits = rw c.fits.ensures at c.refuse_unless.ensures in
     let f = selected _ _ _ _ (test-held _ _ (sym fits ∙ c.in_ok-refuse_unless.was)) in
-    rw c.items_of.ensures (omega (arith, size f.bounds))
+    rw c.items.ensures (omega (arith, size f.bounds))
 
 pub returns : goal.returns
 unfolding matrix_check
 returns c =
-    let fits = rw c.selector_fits.ensures at c.refuse_unless.ensures in
-    went_on fits c.in_ok-refuse_unless.was (rw c.items_of.ensures at c.room_for.ensures)
+    let fits = rw c.fits.ensures at c.refuse_unless.ensures in
+    went_on fits c.in_ok-refuse_unless.was (rw c.items.ensures at c.room_for.ensures)

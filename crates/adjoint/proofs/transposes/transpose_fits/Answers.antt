@@ -3,5 +3,5 @@ use Rattle.std.proofs.Common.{sym, ◌∙◌}
 use Rattle.sparse.proofs.Fits.{bounds}
 use Rattle.adjoint.proofs.transposes.transpose_fits.Goals as goal
 
-pub entries_fit-requires : goal.entries_fit-requires
-entries_fit-requires c = (bounds _ _ (sym c.bounded.ensures ∙ c.if-bounded.true)).small
+pub fit-requires : goal.fit-requires
+fit-requires c = (bounds _ _ (sym c.bounded.ensures ∙ c.if-bounded.true)).small

@@ -1,8 +1,7 @@
--- `assembly::inner::count_buses` meets its contract. Assumes nothing.
 use Rattle.std.proofs.Common.{refl, arith, length}
 use Rattle.lists.specs.UpTo.{up_to}
 use Rattle.lists.proofs.Sums.{sum-next}
-use Rattle.numbering.specs.Laid.{net_of}
+use Rattle.numbering.specs.Network.{grid}
 use Rattle.bus_columns.specs.Counts.{own_cells}
 use Rattle.assembly.proofs.inner.count_buses.Goals as goal
 
@@ -12,7 +11,7 @@ loop-i-init c = record { bound = omega arith; counted = refl }
 
 pub loop-i-preserved : goal.loop-i-preserved
 loop-i-preserved c =
-    let G = net_of c.args.l c.args.bytes.now in
+    let G = grid c.args.net.now in
     let o = c.loop-i in
     record {
       bound = omega arith;

@@ -1,24 +1,16 @@
--- `assembly::inner::fill_generators` meets its contract: the qg columns start where the pg columns end. Assumes nothing.
 use Rattle.std.proofs.Common.{arith}
+use Rattle.numbering.specs.Network.{grid}
 use Rattle.numbering.specs.declared.ColumnName.TheVariants.{Pg, Qg}
 use Rattle.numbering.proofs.Numbers.{layout-column}
 use Rattle.matrix.specs.Columns.{pg_cells}
-use Rattle.assembly.specs.Parts.{generator_columns}
 use Rattle.lists.proofs.Listed.{listed-length}
-use Rattle.cells.proofs.Ends.{columns-then}
-use Rattle.numbering.specs.Laid.{net_of}
+use Rattle.cells.proofs.Puts.{columns-then}
+use Rattle.assembly.specs.Parts.{generator_columns}
 use Rattle.assembly.proofs.inner.fill_generators.Goals as goal
 
-pub returns : goal.returns
+pub returns-clause-columns : goal.returns-clause-columns
 unfolding generator_columns
-returns c =
-    let a = c.args in
-    record {
-      columns = columns-then c.put_pgs-next.ensures.columns (omega (
-        arith,
-        listed-length (pg_cells (net_of a.l a.bytes.now)) a.l.k,
-        layout-column a.l (Pg 0),
-        layout-column a.l (Qg 0),
-      )) c.put_qgs.ensures.columns;
-      upper_bound = omega (arith, c.put_pgs-next.ensures.upper_bound, c.put_qgs.ensures.upper_bound);
-    }
+returns-clause-columns c =
+    let net = c.args.net.now in
+    let l = net.layout in
+    columns-then c.put_pgs.ensures.columns (omega (arith, listed-length (pg_cells (grid net)) l.k, layout-column l (Pg 0), layout-column l (Qg 0))) c.put_qgs.ensures.columns

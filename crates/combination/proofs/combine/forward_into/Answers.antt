@@ -1,21 +1,22 @@
-use Prim.Native.Nat.{ℕ, ◌*◌}
-use mathlib.Core.Path.{◌≡◌, ap, ◌∙◌}
-use native.Mathlib.Omega.{arith}
-use lib.ListN.{length, replicate}
-use Rattle.lists.proofs.Overlay.{filled-whole}
+use Rattle.std.proofs.Common.{ℕ, ◌*◌, ◌≡◌, ap, ◌∙◌, arith, length}
+use Rattle.std.proofs.Math.ListN.{replicate}
 use Rattle.sparse.specs.Sparse.{zero64}
-use Rattle.sparse.proofs.Fits.{selected}
 use Rattle.combination.proofs.Tables.{spread_forward}
-use Rattle.combination.proofs.Forward.{segments_of_lem, forward_table}
+use Rattle.combination.proofs.Forward.{forward_table}
 use Rattle.combination.proofs.combine.forward_into.Goals as goal
 
-pub weigh_all-requires : goal.weigh_all-requires
-weigh_all-requires c =
-    let f = selected _ _ _ _ c.requires.0 in
-    let e : length c.fill.new.d ≡ c.args.items * c.args.columns = omega arith in record { spread = (rw e (spread_forward c.args.items c.args.columns), rw c.requires.1 (segments_of_lem f), c.requires.3); at_bound = (omega arith, omega arith, c.requires.2, c.requires.2, f.bounds.small) }
+pub weigh_all-requires-clause-spread : goal.weigh_all-requires-clause-spread
+weigh_all-requires-clause-spread c =
+    let t = c.args.terms.now in
+    let e : length c.fill.new.self ≡ t.segments * c.args.x.now.columns = omega arith in
+    rw e (spread_forward t.segments c.args.x.now.columns)
 
 pub returns : goal.returns
 returns c =
-    let e : length c.fill.new.d ≡ c.args.items * c.args.columns = omega arith in
-    let z : c.fill.new.d ≡ replicate (c.args.items * c.args.columns) zero64 = c.fill.ensures ∙ filled-whole c.args.out.now zero64 ∙ ap (λ (n : ℕ). replicate n zero64) c.requires.4 in
-    (c.scale.ensures ∙ forward_table c.args.dim c.args.columns c.args.items c.args.starts.now c.args.rows.now c.args.weights.now c.args.x.now c.args.sign z e c.weigh_all.ensures, omega arith)
+    let t = c.args.terms.now in
+    let s = t.selector in
+    let x = c.args.x.now in
+    let e : length c.fill.new.self ≡ t.segments * x.columns = omega arith in
+    let z : c.fill.new.self ≡ replicate (t.segments * x.columns) zero64 =
+    c.fill.ensures.after (λ y e. e) ∙ ap (λ (n : ℕ). replicate n zero64) c.requires.1 in
+    (c.scale.ensures ∙ forward_table x.dim x.columns t.segments s.starts.now s.rows.now s.weights.now x.values.now c.args.sign z e c.weigh_all.ensures, omega arith)

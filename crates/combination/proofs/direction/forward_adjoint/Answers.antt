@@ -13,26 +13,26 @@ returns-in_err-check c =
 pub overflow_mul-need : goal.overflow_mul-need
 overflow_mul-need c =
     let f = combination-ready (sym c.check.ensures ∙ c.in_ok-check.was) in
-    rw c.items_of-items.ensures (omega (arith, cells f.has))
+    rw c.items.ensures (omega (arith, cells f.has))
 
-pub slice_bounds-part-end : goal.slice_bounds-part-end
-slice_bounds-part-end c =
+pub slice_bounds-combine_into-end : goal.slice_bounds-combine_into-end
+slice_bounds-combine_into-end c =
     let f = combination-ready (sym c.check.ensures ∙ c.in_ok-check.was) in
-    rw c.items_of-items.ensures f.room
+    rw c.items.ensures f.room
 
-pub slice_bounds-part-end-2 : goal.slice_bounds-part-end-2
-slice_bounds-part-end-2 c =
+pub slice_bounds-combine_into-end-2 : goal.slice_bounds-combine_into-end-2
+slice_bounds-combine_into-end-2 c =
     let f = combination-ready (sym c.check.ensures ∙ c.in_ok-check.was) in
-    sym (length-take-le _ _ (rw c.items_of-items.ensures f.room))
+    sym (length-take-le _ _ (rw c.items.ensures f.room))
 
 pub combine_into-requires : goal.combine_into-requires
 combine_into-requires c =
     let f = combination-ready (sym c.check.ensures ∙ c.in_ok-check.was) in
-    (f.fits, c.items_of-items.ensures, length-take-le _ _ (rw c.items_of-items.ensures f.room))
+    (f.fits, rw c.items.ensures (length-take-le _ _ f.room))
 
 pub returns : goal.returns
 returns c =
     let h = sym c.check.ensures ∙ c.in_ok-check.was in
-    let need = ap (λ (n : ℕ). n * c.args.columns) c.items_of-items.ensures in
+    let need = ap (λ (n : ℕ). n * c.args.given.now.columns) c.items.ensures in
     let w = c.combine_into.ensures in
-    record { value = ap Ok need ∙ sym (answer-held _ h); out_after = left-front _ _ h w.0 w.1 }
+    record { value = ap Ok need ∙ sym (answer-held _ h); out_after = left-front _ _ h w.0 (w.1 ∙ sym need) }

@@ -8,5 +8,9 @@ pub loop-t-init : goal.loop-t-init
 loop-t-init c = lowest ∙ sym (highest-none _ _ _)
 
 pub loop-t-preserved : goal.loop-t-preserved
-loop-t-preserved c = let a = c.args in
-    cc (highest-more (λ t. slope_of a.b.now (a.first + t)) (λ t. intercept_of a.b.now (a.first + t)) a.x c.loop-t.t)
+loop-t-preserved c =
+    let a = c.args in
+    let q = a.segments in
+    let r = c.record-r.ensures in
+    rw (c.max-best.ensures, c.line.ensures, c.slope.ensures, c.intercept.ensures, r.place, r.bytes, c.loop-t.invariant)
+    (sym (highest-more (λ t. slope_of q.bytes.now (q.first + t)) (λ t. intercept_of q.bytes.now (q.first + t)) a.x c.loop-t.t))

@@ -5,4 +5,6 @@ use Rattle.cost.specs.Cost.{highest}
 use Rattle.cost.proofs.inner.evaluate.Given as goal
 
 abbrev pub invariant-loop-t : goal.invariant-loop-t
-invariant-loop-t l = l.best ≡ highest (λ t. slope_of l.b (l.first + t)) (λ t. intercept_of l.b (l.first + t)) l.t l.x
+invariant-loop-t i =
+    let q = i.segments in
+    i.best ≡ highest (λ t. slope_of q.bytes.now (q.first + t)) (λ t. intercept_of q.bytes.now (q.first + t)) i.t i.x

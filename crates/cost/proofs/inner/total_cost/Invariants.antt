@@ -3,11 +3,12 @@
 use Rattle.std.proofs.Common.{◌+◌, ◌≡◌}
 use Rattle.records.specs.Network.{segments_before}
 use Rattle.numbering.specs.Layout.{layout_column}
-use Rattle.numbering.specs.Laid.{net_of}
+use Rattle.numbering.specs.Network.{grid}
 use Rattle.numbering.specs.declared.ColumnName.TheVariants.{Pg}
 use Rattle.cost.proofs.Costs.{total_so_far}
 use Rattle.cost.proofs.inner.total_cost.Given as goal
 
 abbrev pub invariant-loop-g : goal.invariant-loop-g
-invariant-loop-g l =
-    (l.pg ≡ layout_column l.l (Pg 0)) × (l.first ≡ l.l.n + l.l.m + l.l.k + segments_before l.l.n l.l.m l.b l.g) × (l.sum ≡ total_so_far (net_of l.l l.b) l.x l.g)
+invariant-loop-g i =
+    let l = i.net.layout in
+    (i.pg ≡ layout_column l (Pg 0)) × (i.first ≡ l.n + l.m + l.k + segments_before l.n l.m i.net.bytes.now i.g) × (i.sum ≡ total_so_far (grid i.net) i.x i.g)

@@ -1,4 +1,4 @@
-use lib.ListN.{length-map}
+use Rattle.std.proofs.lemmas.List.{length-map}
 use Rattle.dealing.proofs.Ahead.{turned-back}
 use Rattle.entries.proofs.whole.turned_rows.Goals as goal
 

@@ -5,4 +5,4 @@ use Rattle.lists.proofs.Overlay.{Overlaid}
 use Rattle.interface.proofs.inner.count_from.Given as goal
 
 abbrev pub invariant-loop-i : goal.invariant-loop-i
-invariant-loop-i l = (length l.d ≡ length l.initial.d) × Overlaid (listed l.i (λ j. l.base + j)) l.initial.d l.d
+invariant-loop-i l = (length l.initial.place-items ≡ l.n) × Overlaid (listed l.i (λ j. l.base + j)) l.initial.place-items l.place-items

@@ -9,4 +9,4 @@ returns-in_err-refuse_unless c = ends _ c.from_residual.ensures.1 c.in_err-refus
 
 pub returns : goal.returns
 unfolding selector_check
-returns c = went_on c.refuse_unless.ensures c.in_ok-refuse_unless.was c.selector_room.ensures
+returns c = went_on c.refuse_unless.ensures c.in_ok-refuse_unless.was c.room.ensures

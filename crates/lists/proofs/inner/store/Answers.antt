@@ -1,4 +1,4 @@
-use mathlib.Core.Path.{sym}
+use Rattle.std.proofs.Common.{sym}
 use lib.Seq.{set_out}
 use Rattle.lists.proofs.inner.store.Goals as goal
 

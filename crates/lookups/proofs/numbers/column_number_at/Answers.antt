@@ -1,13 +1,12 @@
 -- The check's cause, and else what is asked of its network.
-use Rattle.refusals.proofs.Laws.{ends_by, went_on_by}
-use Rattle.numbering.proofs.OnePass.{new-laid, new-layout}
+use Rattle.std.proofs.Common.{refl}
+use Rattle.refusals.proofs.Laws.{ends, went_on}
 use Rattle.lookups.proofs.numbers.column_number_at.Goals as goal
 
 pub returns-in_err-new : goal.returns-in_err-new
-returns-in_err-new c = ends_by _ _ c.new.ensures _ c.from_residual.ensures.1 c.in_err-new.was
-
-pub column_asked-requires : goal.column_asked-requires
-column_asked-requires c = new-laid _ _ _ _ _ c.new.ensures c.in_ok-new.was
+returns-in_err-new c = ends _ c.from_residual.ensures.1 (rw c.in_err-new.was at c.new.ensures) refl
 
 pub returns : goal.returns
-returns c = went_on_by _ _ c.new.ensures c.in_ok-new.was (λ e. rw (new-layout _ _ _ _ _ c.new.ensures c.in_ok-new.was) at c.column_asked.ensures)
+returns c =
+    let o = rw c.in_ok-new.was at c.new.ensures in
+    went_on refl o.accepted (rw (o.layout, o.bytes) at c.column_asked.ensures)

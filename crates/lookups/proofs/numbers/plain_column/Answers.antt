@@ -2,7 +2,7 @@
 use Rattle.std.proofs.Common.{ℕ, ◌<◌, ap, ◌∙◌, get_or, arith, Some, Ok}
 use Rattle.refusals.proofs.Laws.{ends, went_on}
 use Rattle.numbering.specs.Numbering.{column_blocks}
-use Rattle.numbering.specs.Laid.{net_of}
+use Rattle.numbering.specs.Network.{grid}
 use Rattle.numbering.specs.Layout.{layout_columns, sizes_of}
 use Rattle.numbering.proofs.Entered.{column-most}
 use Rattle.numbering.proofs.Tables.{laid-column-block, laid-column-key}
@@ -14,34 +14,38 @@ pub returns-in_err-below : goal.returns-in_err-below
 unfolding column_asked
 returns-in_err-below c =
     let a = c.args in
-    let G = net_of a.l a.bytes.now in
-    let here = laid-column-block a.l a.bytes.now c.requires.0 a.block c.requires.1 in
+    let w = a.net.now in
+    let G = grid w in
+    let here = laid-column-block w.layout w.bytes.now w.laid a.x.block c.requires in
     ends _ c.from_residual.ensures.1 c.in_err-below.was (rw c.column_sizes-sizes.ensures at c.below.ensures.value)
-    ∙ ask_plain (column_blocks G) _ a.block a.item a.place _ (column-among G a.block (omega arith)) here (column-has G a.block a.item a.place c.requires.1)
+    ∙ ask_plain (column_blocks G) _ a.x.block a.x.item a.x.place _ (column-among G a.x.block (omega arith)) here (column-has G a.x.block a.x.item a.x.place c.requires)
 
 pub returns-in_err-below-2 : goal.returns-in_err-below-2
 unfolding column_asked
 returns-in_err-below-2 c =
     let a = c.args in
-    let G = net_of a.l a.bytes.now in
-    let here = laid-column-block a.l a.bytes.now c.requires.0 a.block c.requires.1 in
+    let w = a.net.now in
+    let G = grid w in
+    let here = laid-column-block w.layout w.bytes.now w.laid a.x.block c.requires in
     went_on (rw c.column_sizes-sizes.ensures at c.below.ensures.value) c.in_ok-below.was
     (ends _ c.from_residual-in_err-below-2.ensures.1 c.in_err-below-2.was c.below-2.ensures.value)
-    ∙ ask_plain (column_blocks G) _ a.block a.item a.place _ (column-among G a.block (omega arith)) here (column-has G a.block a.item a.place c.requires.1)
+    ∙ ask_plain (column_blocks G) _ a.x.block a.x.item a.x.place _ (column-among G a.x.block (omega arith)) here (column-has G a.x.block a.x.item a.x.place c.requires)
 
 pub column_at-requires : goal.column_at-requires
 column_at-requires c =
     let a = c.args in
-    let inside : a.item < get_or (sizes_of (layout_columns a.l)) a.block 0 = rw (c.in_ok-below.was, c.column_sizes-sizes.ensures) at c.below.ensures.in_range in
-    record { in_range = c.requires.0.range; block_lt_column_many = (omega arith, omega (arith, column-most a.l c.requires.0.range a.block)) }
+    let w = a.net.now in
+    let inside : a.x.item < get_or (sizes_of (layout_columns w.layout)) a.x.block 0 = rw (c.in_ok-below.was, c.column_sizes-sizes.ensures) at c.below.ensures.in_range in
+    record { in_range = w.laid.range; block_lt_column_many = (omega arith, omega (arith, column-most w.layout w.laid.range a.x.block)) }
 
 pub returns : goal.returns
 unfolding column_asked
 returns c =
     let a = c.args in
-    let G = net_of a.l a.bytes.now in
-    let here = laid-column-block a.l a.bytes.now c.requires.0 a.block c.requires.1 in
-    let number = c.column_at.ensures ∙ laid-column-key a.l a.bytes.now c.requires.0 a.block a.item c.requires.1 in
+    let w = a.net.now in
+    let G = grid w in
+    let here = laid-column-block w.layout w.bytes.now w.laid a.x.block c.requires in
+    let number = c.column_at.ensures ∙ laid-column-key w.layout w.bytes.now w.laid a.x.block a.x.item c.requires in
     went_on (rw c.column_sizes-sizes.ensures at c.below.ensures.value) c.in_ok-below.was
     (went_on c.below-2.ensures.value c.in_ok-below-2.was (ap (λ (p : ℕ). Ok (Some p)) number))
-    ∙ ask_plain (column_blocks G) _ a.block a.item a.place _ (column-among G a.block (omega arith)) here (column-has G a.block a.item a.place c.requires.1)
+    ∙ ask_plain (column_blocks G) _ a.x.block a.x.item a.x.place _ (column-among G a.x.block (omega arith)) here (column-has G a.x.block a.x.item a.x.place c.requires)

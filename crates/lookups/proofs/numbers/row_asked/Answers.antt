@@ -1,6 +1,6 @@
 -- Each block is asked by its own function, and one that there is none of is 7.
 use Rattle.std.proofs.Common.{arith}
-use Rattle.numbering.specs.Laid.{net_of}
+use Rattle.numbering.specs.Network.{grid}
 use Rattle.numbering.proofs.Tables.{rows-many}
 use Rattle.lookups.specs.Lookups.{row_asked}
 use Rattle.lookups.proofs.Asked.{ask_block}
@@ -10,4 +10,5 @@ pub returns : goal.returns
 unfolding row_asked
 returns c =
     let a = c.args in
-    ask_block _ _ _ (omega (arith, rows-many (net_of a.l a.bytes.now)))
+    let w = a.net.now in
+    ask_block _ _ _ (omega (arith, rows-many (grid w)))

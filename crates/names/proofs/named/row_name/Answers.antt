@@ -1,41 +1,40 @@
 -- The check's cause, 7 past the end, and else the name that stands there.
 use Rattle.std.proofs.Common.{◌<◌, refl, sym, ap, ◌∙◌, ltb-true, Ok}
-use Rattle.refusals.proofs.Laws.{ends, went_on, refused_by, answer_ended, answer_went_on, test-held}
-use Rattle.records.specs.Network.{network_of}
+use Rattle.refusals.proofs.Laws.{ends, went_on, answer_ended, answer_went_on, test-held}
+use Rattle.records.specs.Case.{case_network}
 use Rattle.numbering.specs.Numbering.{ncon}
 use Rattle.names.specs.Named.{row_named}
 use Rattle.numbering.proofs.Laid.{laid-ncon}
-use Rattle.numbering.proofs.OnePass.{new-check, new-layout, new-laid, new-ncon}
+use Rattle.numbering.proofs.OnePass.{opened-ncon}
 use Rattle.numbering.proofs.Names.{row-only}
 use Rattle.names.proofs.named.row_name.Goals as goal
 
-pub returns-in_err-l : goal.returns-in_err-l
+pub returns-in_err-net : goal.returns-in_err-net
 unfolding row_named
-returns-in_err-l c = answer_ended _ _ refl c.from_residual.ensures.1 (refused_by _ _ c.new.ensures c.in_err-l.was)
-
-pub row_count-requires : goal.row_count-requires
-row_count-requires c = (new-laid _ _ _ _ _ c.new.ensures c.in_ok-l.was).range
+returns-in_err-net c = answer_ended _ _ refl c.from_residual.ensures.1 (rw c.in_err-net.was at c.new.ensures)
 
 pub returns-in_err-refuse_unless : goal.returns-in_err-refuse_unless
 unfolding row_named
 returns-in_err-refuse_unless c =
-    let many = c.row_count.ensures ∙ new-ncon _ _ _ _ _ c.new.ensures c.in_ok-l.was in
-    answer_went_on _ _ refl (new-check _ _ _ _ _ c.new.ensures c.in_ok-l.was)
+    let o = rw c.in_ok-net.was at c.new.ensures in
+    let many = c.row_count.ensures ∙ opened-ncon _ _ _ _ _ o in
+    answer_went_on _ _ refl o.accepted
     (ends _ c.from_residual-in_err-refuse_unless.ensures.1 c.in_err-refuse_unless.was (rw many at c.refuse_unless.ensures))
 
 pub row_at-requires : goal.row_at-requires
 row_at-requires c =
-    let it = new-laid _ _ _ _ _ c.new.ensures c.in_ok-l.was in
-    let many = c.row_count.ensures ∙ laid-ncon _ _ it in
-    (it, ltb-true _ _ (test-held _ _ (sym (rw many at c.refuse_unless.ensures) ∙ c.in_ok-refuse_unless.was)))
+    let net = c.in_ok-net.net in
+    let many = c.row_count.ensures ∙ laid-ncon _ _ net.laid in
+    ltb-true _ _ (test-held _ _ (sym (rw many at c.refuse_unless.ensures) ∙ c.in_ok-refuse_unless.was))
 
 pub returns : goal.returns
 unfolding row_named
 returns c =
     let a = c.args in
-    let many = c.row_count.ensures ∙ new-ncon _ _ _ _ _ c.new.ensures c.in_ok-l.was in
+    let o = rw c.in_ok-net.was at c.new.ensures in
+    let many = c.row_count.ensures ∙ opened-ncon _ _ _ _ _ o in
     let test = rw many at c.refuse_unless.ensures in
-    let below : a.p < ncon (network_of a.n a.m a.k a.s a.bytes.now) = ltb-true _ _ (test-held _ _ (sym test ∙ c.in_ok-refuse_unless.was)) in
-    answer_went_on _ _ refl (new-check _ _ _ _ _ c.new.ensures c.in_ok-l.was)
+    let below : a.p < ncon (case_network a.case) = ltb-true _ _ (test-held _ _ (sym test ∙ c.in_ok-refuse_unless.was)) in
+    answer_went_on _ _ refl o.accepted
     (went_on test c.in_ok-refuse_unless.was
-    (ap Ok (row-only _ _ below _ (rw (new-layout _ _ _ _ _ c.new.ensures c.in_ok-l.was) at c.row_at.ensures))))
+    (ap Ok (row-only _ _ below _ (rw (o.layout, o.bytes) at c.row_at.ensures))))

@@ -1,5 +1,5 @@
 -- `numbering::SocWrLayout::column_at` meets its contract: a block's columns follow its start. Assumes nothing.
-use native.Mathlib.Omega.{arith}
+use Rattle.std.proofs.Common.{arith}
 use Rattle.numbering.specs.Numbering.{column_many}
 use Rattle.numbering.specs.Layout.{layout_columns}
 use Rattle.numbering.proofs.Entered.{plain-number, plain-columns}

@@ -1,5 +1,5 @@
 -- `numbering::SocWrLayout::jabr_row` meets its contract: the rows follow where their block starts. Assumes nothing.
-use native.Mathlib.Omega.{arith}
+use Rattle.std.proofs.Common.{arith}
 use Rattle.numbering.proofs.Entered.{jabr-number}
 use Rattle.numbering.proofs.SocWrLayout.jabr_row.Goals as goal
 

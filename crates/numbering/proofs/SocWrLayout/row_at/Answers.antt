@@ -1,5 +1,5 @@
 -- `numbering::SocWrLayout::row_at` meets its contract: a block's rows follow its start. Assumes nothing.
-use native.Mathlib.Omega.{arith}
+use Rattle.std.proofs.Common.{arith}
 use Rattle.numbering.specs.Numbering.{jabr_rows}
 use Rattle.numbering.specs.Layout.{layout_rows}
 use Rattle.numbering.proofs.Entered.{plain-number, plain_rows}

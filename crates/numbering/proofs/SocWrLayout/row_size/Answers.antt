@@ -1,8 +1,5 @@
 -- `numbering::SocWrLayout::row_size` meets its contract: a block's rows are its length among the lengths. Assumes nothing.
-use mathlib.Core.Path.{ap, ◌∙◌}
-use mathlib.Core.List.{List}
-use native.Mathlib.Omega.{arith}
-use lib.ListN.{get_or}
+use Rattle.std.proofs.Common.{ap, ◌∙◌, List, arith, get_or}
 use Rattle.numbering.specs.Layout.{layout_rows}
 use Rattle.numbering.proofs.Entered.{size-at, row-most}
 use Rattle.numbering.proofs.SocWrLayout.row_size.Goals as goal

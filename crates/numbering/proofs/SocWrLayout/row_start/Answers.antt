@@ -1,8 +1,5 @@
--- `numbering::SocWrLayout::row_start` meets its contract: the lengths before a block, added up, are where it starts. Assumes nothing.
-use mathlib.Core.Path.{ap, ◌∙◌}
-use mathlib.Core.List.{List}
-use native.Mathlib.Omega.{arith}
-use lib.ListN.{length}
+-- The lengths before a block, added up, are where it starts.
+use Rattle.std.proofs.Common.{ℕ, ap, ◌∙◌, List, length, arith}
 use Rattle.numbering.specs.Layout.{layout_rows, start_in}
 use Rattle.numbering.proofs.Entered.{start_is, row_blocks_lem, row-most}
 use Rattle.numbering.proofs.SocWrLayout.row_start.Goals as goal
@@ -11,9 +8,11 @@ pub start_of-requires : goal.start_of-requires
 start_of-requires c =
     let l = c.args.self in
     let lengths = c.row_sizes-sizes.ensures in
-    let many = ap length lengths ∙ row_blocks_lem l in record { block_in_bounds = (omega arith, omega arith); by_index = rw lengths (row-most l c.requires.in_range) }
+    let many = ap length lengths ∙ row_blocks_lem l in
+    record { block_in_bounds = (omega arith, omega arith); by_index = rw lengths (row-most l c.requires.in_range) }
 
 pub returns : goal.returns
 returns c =
     let a = c.args in
-    let lengths = c.row_sizes-sizes.ensures in record { value = c.start_of.ensures.value ∙ ap (λ (ws : List _). start_in ws a.block) lengths ∙ start_is (layout_rows a.self) a.block; upper_bound = c.start_of.ensures.upper_bound }
+    let sum = ap (λ (ws : List ℕ). start_in ws a.block) c.row_sizes-sizes.ensures in
+    record { value = c.start_of.ensures.value ∙ sum ∙ start_is (layout_rows a.self) a.block; upper_bound = c.start_of.ensures.upper_bound }

@@ -1,5 +1,5 @@
 -- `numbering::SocWrLayout::thermal_row` meets its contract: the rows follow where their block starts. Assumes nothing.
-use native.Mathlib.Omega.{arith}
+use Rattle.std.proofs.Common.{arith}
 use Rattle.numbering.proofs.Entered.{thermal-number}
 use Rattle.numbering.proofs.SocWrLayout.thermal_row.Goals as goal
 

@@ -1,5 +1,5 @@
 -- Refused for the room alone; else the lengths stand at the front.
-use Rattle.std.proofs.Common.{refl, sym, ◌∙◌}
+use Rattle.std.proofs.Common.{sym, ◌∙◌}
 use Rattle.refusals.proofs.Laws.{ends, left_stopped, has_room, answer-held, left-written}
 use Rattle.numbering.proofs.cones.cones_in.Goals as goal
 
@@ -11,7 +11,7 @@ returns-in_err-room_for c =
     }
 
 pub cones_into-requires : goal.cones_into-requires
-cones_into-requires c = (c.requires, refl, has_room _ _ (sym c.room_for.ensures ∙ c.in_ok-room_for.was))
+cones_into-requires c = (c.requires, has_room _ _ (sym c.room_for.ensures ∙ c.in_ok-room_for.was))
 
 pub returns : goal.returns
 returns c =

@@ -1,16 +1,15 @@
 -- The record check's cause, or else 6.
-use Rattle.refusals.proofs.Laws.{ends_by, went_on_by}
-use Rattle.numbering.proofs.OnePass.{new-layout, new-laid}
+use Rattle.std.proofs.Common.{refl}
+use Rattle.refusals.proofs.Laws.{ends, went_on}
 use Rattle.reading.specs.Reading.{reading_check}
 use Rattle.reading.proofs.checks.reading_check.Goals as goal
 
-pub returns-in_err-l : goal.returns-in_err-l
+pub returns-in_err-net : goal.returns-in_err-net
 unfolding reading_check
-returns-in_err-l c = ends_by _ _ c.new.ensures _ c.from_residual.ensures.1 c.in_err-l.was
-
-pub solution_cause-requires : goal.solution_cause-requires
-solution_cause-requires c = new-laid _ _ _ _ _ c.new.ensures c.in_ok-l.was
+returns-in_err-net c = ends _ c.from_residual.ensures.1 (rw c.in_err-net.was at c.new.ensures) refl
 
 pub returns : goal.returns
 unfolding reading_check
-returns c = went_on_by _ _ c.new.ensures c.in_ok-l.was (λ e. rw (new-layout _ _ _ _ _ c.new.ensures c.in_ok-l.was) at c.solution_cause.ensures)
+returns c =
+    let o = rw c.in_ok-net.was at c.new.ensures in
+    went_on refl o.accepted (rw (o.layout, o.bytes) at c.solution_cause.ensures)

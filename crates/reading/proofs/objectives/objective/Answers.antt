@@ -1,23 +1,20 @@
--- Where x is not refused, the value on the network's layout.
-use Rattle.std.proofs.Common.{ap, Ok, arith}
-use Rattle.refusals.proofs.Laws.{ends_by, went_on_by}
+-- Where x is not refused, the value on the network.
+use Rattle.std.proofs.Common.{refl, ap, Ok, arith}
+use Rattle.refusals.proofs.Laws.{ends, went_on}
 use Rattle.reading.specs.Reading.{objective_answer}
-use Rattle.reading.proofs.Readings.{part-laid}
+use Rattle.reading.proofs.Readings.{part-long}
 use Rattle.reading.proofs.objectives.objective.Goals as goal
 
-pub returns-in_err-l : goal.returns-in_err-l
+pub returns-in_err-check_part : goal.returns-in_err-check_part
 unfolding objective_answer
-returns-in_err-l c = ends_by _ _ c.check_part.ensures _ c.from_residual.ensures.1 c.in_err-l.was
+returns-in_err-check_part c = ends _ c.from_residual.ensures.1 (rw c.in_err-check_part.was at c.check_part.ensures) refl
 
 pub value-requires : goal.value-requires
-value-requires c =
-    let a = c.args in
-    let p = part-laid a.n a.m a.k a.s _ _ c.check_part.ensures c.in_ok-l.was in
-    record { laid = p.1; l_in_bounds = omega (arith, p.2) }
+value-requires c = let r = rw c.in_ok-check_part.was at c.check_part.ensures in omega (arith, part-long _ _ _ _ _ _ r)
 
 pub returns : goal.returns
 unfolding objective_answer
 returns c =
-    let a = c.args in
-    let p = part-laid a.n a.m a.k a.s _ _ c.check_part.ensures c.in_ok-l.was in
-    went_on_by _ _ c.check_part.ensures c.in_ok-l.was (λ e. ap Ok (rw p.0 at c.value.ensures))
+    let r = rw c.in_ok-check_part.was at c.check_part.ensures in
+    let o = r.opened in
+    went_on refl r.checked (ap Ok (rw (o.layout, o.bytes) at c.value.ensures))

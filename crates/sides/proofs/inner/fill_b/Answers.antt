@@ -10,28 +10,29 @@ use Rattle.sides.proofs.inner.fill_b.Goals as goal
 
 pub fill_intercepts-requires : goal.fill_intercepts-requires
 fill_intercepts-requires c =
-    let l = c.args.l in
+    let l = c.args.net.now.layout in
     let first = c.segment_row-cost.ensures in
     let x = runs_length c.fill_buses.ensures in
     let y = runs_length c.fill_ohms.ensures in
     let z = runs_length c.fill_capabilities.ensures in
-    record { count_in_bounds = rw c.requires.laid.accepted.size (omega arith); count_in_bounds_2 = omega (arith, c.requires.l_in_bounds, first, layout_row_lem l (Segment 0 0), layout-ncon l) }
+    omega (arith, c.requires, c.segments.ensures.count, first, layout_row_lem l (Segment 0 0), layout-ncon l)
 
 pub fill_all-requires : goal.fill_all-requires
 fill_all-requires c =
-    let l = c.args.l in
+    let l = c.args.net.now.layout in
     let first = c.jabr_row-jabr.ensures in
     let w = runs_length c.fill_buses.ensures in
     let x = runs_length c.fill_ohms.ensures in
     let y = runs_length c.fill_capabilities.ensures in
     let z = kept-length c.fill_intercepts.ensures in
-    omega (arith, c.requires.l_in_bounds, first, layout_row_lem l (Jabr 0 0), layout-ncon l)
+    omega (arith, c.requires, first, layout_row_lem l (Jabr 0 0), layout-ncon l)
 
 pub returns : goal.returns
 unfolding zero_run segment_run
 returns c =
-    let l = c.args.l in
-    right_runs l c.args.bytes.now c.requires.laid _ c.requires.l_in_bounds
+    let l = c.args.net.now.layout in
+    let q = c.segments.ensures in
+    right_runs l c.args.net.now.bytes.now c.args.net.now.laid _ c.requires
     (c.fill_buses.ensures then_runs c.fill_ohms.ensures then_runs c.fill_capabilities.ensures
-    then_runs one-run (rw c.segment_row-cost.ensures at c.fill_intercepts.ensures) then_runs one-run (rw c.jabr_row-jabr.ensures at c.fill_all.ensures)
+    then_runs one-run (rw (c.segment_row-cost.ensures, q.first, q.count, q.bytes) at c.fill_intercepts.ensures) then_runs one-run (rw c.jabr_row-jabr.ensures at c.fill_all.ensures)
     then_runs c.fill_branches.ensures)

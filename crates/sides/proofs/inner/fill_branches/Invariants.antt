@@ -8,13 +8,13 @@ use Rattle.sides.proofs.inner.fill_branches.Given as goal
 
 abbrev pub invariant-loop-e : goal.invariant-loop-e
 invariant-loop-e l =
-    let m = l.l.m in
-    let f = side_at l.l l.bytes in
-    let g = ratings_at l.l l.bytes in
+    let m = l.net.layout.m in
+    let f = side_at l.net.layout l.net.bytes.now in
+    let g = ratings_at l.net.layout l.net.bytes.now in
     record {
       first : l.angub + m ≤ l.anglb;
       second : l.anglb + m ≤ l.initial.next;
-      third : l.initial.next + 6 * l.l.t ≤ length l.initial.out;
+      third : l.initial.next + 6 * l.net.layout.t ≤ length l.initial.out;
       behind : Behind m l.e (f Angub) (f Anglb) g l.angub l.anglb l.initial.next l.initial.out l.out;
       stop : l.next ≡ l.initial.next + length (each l.e g);
     }

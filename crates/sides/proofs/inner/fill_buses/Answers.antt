@@ -5,7 +5,8 @@ use Rattle.numbering.specs.Layout.{layout_row, ncon_of}
 use Rattle.numbering.specs.declared.SocWrLayout.{SocWrLayout}
 use Rattle.numbering.specs.declared.RowName.TheVariants.{Pbal, Qbal, Wub, Wlb}
 use Rattle.numbering.proofs.Numbers.{layout_row_lem, layout-ncon}
-use Rattle.sides.specs.Sides.{pbal, qbal, wub, wlb, side_at, block_run}
+use Rattle.rows.specs.Rows.{b}
+use Rattle.sides.specs.Sides.{side_at, block_run}
 use Rattle.sides.proofs.Across.{across_none, across_four, across_all}
 use Rattle.sides.proofs.inner.fill_buses.Goals as goal
 
@@ -17,7 +18,7 @@ order l = simp (layout_row_lem l, layout-ncon l) (omega arith, omega arith, omeg
 
 pub loop-i-init : goal.loop-i-init
 loop-i-init c =
-    let o = order c.args.l in
+    let o = order c.args.net.now.layout in
     let p = c.pbal_row-pbal.ensures in
     let q = c.qbal_row-qbal.ensures in
     let u = c.wub_row-wub.ensures in
@@ -30,31 +31,20 @@ loop-i-init c =
       across = across_none _ _ (omega arith, (rw (p, q) o.0, (rw (q, u) o.1, (rw (u, v) o.2, tt))));
     }
 
-pub bus_rhs-requires : goal.bus_rhs-requires
-bus_rhs-requires c = record { laid = c.requires.laid; bus_block = pbal; i_lt_n = omega arith }
-
-pub bus_rhs-requires-in-loop-i : goal.bus_rhs-requires-in-loop-i
-bus_rhs-requires-in-loop-i c = record { laid = c.requires.laid; bus_block = qbal; i_lt_n = omega arith }
-
-pub bus_rhs-requires-in-loop-i-2 : goal.bus_rhs-requires-in-loop-i-2
-bus_rhs-requires-in-loop-i-2 c = record { laid = c.requires.laid; bus_block = wub; i_lt_n = omega arith }
-
-pub bus_rhs-requires-in-loop-i-3 : goal.bus_rhs-requires-in-loop-i-3
-bus_rhs-requires-in-loop-i-3 c = record { laid = c.requires.laid; bus_block = wlb; i_lt_n = omega arith }
-
 pub loop-i-preserved : goal.loop-i-preserved
-unfolding side_at
+unfolding side_at b
 loop-i-preserved c =
     let a = c.args in
     let o = c.loop-i.invariant in
-    let f = side_at a.l a.bytes.now in
+    let r = c.bus-r.ensures in
+    let f = side_at a.net.now.layout a.net.now.bytes.now in
     let next = across_four (f Pbal) (f Qbal) (f Wub) (f Wlb) o.across (omega arith) in
     record {
       first = o.first;
       second = o.second;
       third = o.third;
       fourth = o.fourth;
-      across = next c.bus_rhs.ensures c.bus_rhs-in-loop-i.ensures c.bus_rhs-in-loop-i-2.ensures c.bus_rhs-in-loop-i-3.ensures;
+      across = next (rw (r.place, r.bytes) at c.pd.ensures) (rw (r.place, r.bytes) at c.qd.ensures) c.bound_side.ensures.rhs c.bound_side-in-loop-i.ensures.rhs;
     }
 
 pub returns : goal.returns

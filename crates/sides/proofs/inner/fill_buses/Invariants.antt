@@ -8,8 +8,8 @@ use Rattle.sides.proofs.inner.fill_buses.Given as goal
 
 abbrev pub invariant-loop-i : goal.invariant-loop-i
 invariant-loop-i l =
-    let c = l.l.n in
-    let f = side_at l.l l.bytes in
+    let c = l.net.layout.n in
+    let f = side_at l.net.layout l.net.bytes.now in
     record {
       first : l.pbal + c ≤ l.qbal;
       second : l.qbal + c ≤ l.wub;

@@ -5,7 +5,7 @@ use Rattle.numbering.specs.Layout.{layout_row, ncon_of}
 use Rattle.numbering.specs.declared.SocWrLayout.{SocWrLayout}
 use Rattle.numbering.specs.declared.RowName.TheVariants.{Pgub, Pglb, Qgub, Qglb}
 use Rattle.numbering.proofs.Numbers.{layout_row_lem, layout-ncon}
-use Rattle.sides.specs.Sides.{pgub, pglb, qgub, qglb, side_at, block_run}
+use Rattle.sides.specs.Sides.{side_at, block_run}
 use Rattle.sides.proofs.Across.{across_none, across_four, across_all}
 use Rattle.sides.proofs.inner.fill_capabilities.Goals as goal
 
@@ -17,7 +17,7 @@ order l = simp (layout_row_lem l, layout-ncon l) (omega arith, omega arith, omeg
 
 pub loop-g-init : goal.loop-g-init
 loop-g-init c =
-    let o = order c.args.l in
+    let o = order c.args.net.now.layout in
     let p = c.pgub_row-pgub.ensures in
     let q = c.pglb_row-pglb.ensures in
     let u = c.qgub_row-qgub.ensures in
@@ -30,31 +30,19 @@ loop-g-init c =
       across = across_none _ _ (omega arith, (rw (p, q) o.0, (rw (q, u) o.1, (rw (u, v) o.2, tt))));
     }
 
-pub gen_rhs-requires : goal.gen_rhs-requires
-gen_rhs-requires c = record { laid = c.requires.laid; gen_block = pgub; g_lt_k = omega arith }
-
-pub gen_rhs-requires-in-loop-g : goal.gen_rhs-requires-in-loop-g
-gen_rhs-requires-in-loop-g c = record { laid = c.requires.laid; gen_block = pglb; g_lt_k = omega arith }
-
-pub gen_rhs-requires-in-loop-g-2 : goal.gen_rhs-requires-in-loop-g-2
-gen_rhs-requires-in-loop-g-2 c = record { laid = c.requires.laid; gen_block = qgub; g_lt_k = omega arith }
-
-pub gen_rhs-requires-in-loop-g-3 : goal.gen_rhs-requires-in-loop-g-3
-gen_rhs-requires-in-loop-g-3 c = record { laid = c.requires.laid; gen_block = qglb; g_lt_k = omega arith }
-
 pub loop-g-preserved : goal.loop-g-preserved
 unfolding side_at
 loop-g-preserved c =
     let a = c.args in
     let o = c.loop-g.invariant in
-    let f = side_at a.l a.bytes.now in
+    let f = side_at a.net.now.layout a.net.now.bytes.now in
     let next = across_four (f Pgub) (f Pglb) (f Qgub) (f Qglb) o.across (omega arith) in
     record {
       first = o.first;
       second = o.second;
       third = o.third;
       fourth = o.fourth;
-      across = next c.gen_rhs.ensures c.gen_rhs-in-loop-g.ensures c.gen_rhs-in-loop-g-2.ensures c.gen_rhs-in-loop-g-3.ensures;
+      across = next c.bound_side.ensures.rhs c.bound_side-in-loop-g.ensures.rhs c.bound_side-in-loop-g-2.ensures.rhs c.bound_side-in-loop-g-3.ensures.rhs;
     }
 
 pub returns : goal.returns

@@ -8,8 +8,8 @@ use Rattle.sides.proofs.inner.fill_capabilities.Given as goal
 
 abbrev pub invariant-loop-g : goal.invariant-loop-g
 invariant-loop-g l =
-    let c = l.l.k in
-    let f = side_at l.l l.bytes in
+    let c = l.net.layout.k in
+    let f = side_at l.net.layout l.net.bytes.now in
     record {
       first : l.pgub + c ≤ l.pglb;
       second : l.pglb + c ≤ l.qgub;

@@ -6,4 +6,4 @@ pub loop-i-init : goal.loop-i-init
 loop-i-init c = filled_none _
 
 pub loop-i-preserved : goal.loop-i-preserved
-loop-i-preserved c = filled_more _ c.loop-i.invariant c.segment_side.ensures
+loop-i-preserved c = let r = c.record.ensures in filled_more _ c.loop-i.invariant (rw (r.place, r.bytes) at c.segment_side.ensures)

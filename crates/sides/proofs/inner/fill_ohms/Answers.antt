@@ -16,23 +16,23 @@ ends-inside l = simp (layout_row_lem l, layout-ncon l) (omega arith, omega arith
 
 pub fill_all-requires : goal.fill_all-requires
 fill_all-requires c =
-    let ends = ends-inside c.args.l in
-    omega (arith, c.requires.l_in_bounds)
+    let ends = ends-inside c.args.net.now.layout in
+    omega (arith, c.requires)
 
 pub fill_all-requires-2 : goal.fill_all-requires-2
 fill_all-requires-2 c =
-    let ends = ends-inside c.args.l in
-    omega (arith, c.requires.l_in_bounds, kept-length c.fill_all.ensures)
+    let ends = ends-inside c.args.net.now.layout in
+    omega (arith, c.requires, kept-length c.fill_all.ensures)
 
 pub fill_all-requires-3 : goal.fill_all-requires-3
 fill_all-requires-3 c =
-    let ends = ends-inside c.args.l in
-    omega (arith, c.requires.l_in_bounds, kept-length c.fill_all.ensures, kept-length c.fill_all-2.ensures)
+    let ends = ends-inside c.args.net.now.layout in
+    omega (arith, c.requires, kept-length c.fill_all.ensures, kept-length c.fill_all-2.ensures)
 
 pub fill_all-requires-4 : goal.fill_all-requires-4
 fill_all-requires-4 c =
-    let ends = ends-inside c.args.l in
-    omega (arith, c.requires.l_in_bounds, kept-length c.fill_all.ensures, kept-length c.fill_all-2.ensures, kept-length c.fill_all-3.ensures)
+    let ends = ends-inside c.args.net.now.layout in
+    omega (arith, c.requires, kept-length c.fill_all.ensures, kept-length c.fill_all-2.ensures, kept-length c.fill_all-3.ensures)
 
 pub returns : goal.returns
 unfolding zero_run

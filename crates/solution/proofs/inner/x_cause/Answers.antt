@@ -5,4 +5,4 @@ use Rattle.solution.proofs.inner.x_cause.Goals as goal
 
 pub returns : goal.returns
 unfolding x_cause
-returns c = cc (laid-nvar c.args.l c.args.bytes.now c.requires)
+returns c = cc (laid-nvar _ _ c.args.net.now.laid)

@@ -5,4 +5,4 @@ use Rattle.solution.proofs.inner.z_cause.Goals as goal
 
 pub returns : goal.returns
 unfolding z_cause
-returns c = cc (laid-ncon c.args.l c.args.bytes.now c.requires)
+returns c = cc (laid-ncon _ _ c.args.net.now.laid)

@@ -7,8 +7,9 @@ use Rattle.admittance.proofs.inner.series.series_admittance.Goals as goal
 pub returns : goal.returns
 returns c =
     let a = c.args in
+    let net = a.net.now in
+    let r = c.branch-net.ensures in
     c.land_all.ensures
     ∙ ap (λ (ss : List Store). stored_all ss a.column.now)
-    (rw (c.entries-es.ensures, c.series.ensures)
-    (series-same a.l a.bytes.now c.requires.laid a.x.now a.z.now a.e c.column_count.ensures c.ohm_rows.ensures
-    (rw (c.br_from-from.ensures, c.br_to-to.ensures) at c.ohm_columns-cols.ensures) a.gb))
+    (rw (c.entries-es.ensures, c.series.ensures, r.bytes, r.place)
+    (series-same net.layout net.bytes.now net.laid a.x.now a.z.now a.e c.column_count.ensures c.ohm_rows-rows.ensures c.ohm_columns.ensures a.gb))

@@ -2,7 +2,7 @@ use Rattle.lists.specs.UpTo.{each}
 use Rattle.lists.specs.Puts.{Puts}
 use Rattle.numbering.specs.Network.{grid}
 use Rattle.complementarity.specs.Writes.{row_entries}
-use Rattle.blocks.specs.Kinds.{bound_name}
+use Rattle.bounds.specs.Kinds.{bound_name}
 use Rattle.blocks.proofs.inner.bounded.bound_rows.Given as goal
 
 abbrev pub invariant-loop-i : goal.invariant-loop-i

@@ -5,24 +5,24 @@ use Rattle.blocks.specs.Kinds.{thermal_in}
 use Rattle.blocks.proofs.Laws.{bit_at}
 use Rattle.blocks.proofs.inner.cones.thermal_row.Goals as goal
 
-pub thermal_from-a-requires : goal.thermal_from-a-requires
-thermal_from-a-requires c =
+pub thermal-a-requires : goal.thermal-a-requires
+thermal-a-requires c =
     let p = c.requires.e_lt_m in
     let r = c.branch-r.ensures in
     let e = bit_at r.bytes r.place c.thermal_limit_active.ensures c.if-thermal_limit_active.true in
-    record { laid = c.args.p.now.net.laid; e_lt_m = (p.0, e, p.1) }
+    (p.0, e, p.1)
 
-pub thermal_to-b-requires : goal.thermal_to-b-requires
-thermal_to-b-requires c =
+pub thermal-b-requires : goal.thermal-b-requires
+thermal-b-requires c =
     let p = c.requires.e_lt_m in
     let r = c.branch-r.ensures in
     let e = bit_at r.bytes r.place c.thermal_limit_active.ensures c.if-thermal_limit_active.true in
-    record { laid = c.args.p.now.net.laid; e_lt_m = (p.0, e, p.1) }
+    (p.0, e, p.1)
 
 pub put_lines-requires : goal.put_lines-requires
 unfolding thermal_in
 put_lines-requires c =
-    let q = cone-ready c.args.p.now.given c.column_count-v.ensures c.args.d c.thermal_from-a.ensures in
+    let q = cone-ready c.args.p.now.given c.column_count-v.ensures c.args.d c.thermal-a.ensures in
     let r = c.branch-r.ensures in
     let e = bit_at r.bytes r.place c.thermal_limit_active.ensures c.if-thermal_limit_active.true in
     let h = simp length-append at (rw e at c.requires.room) in
@@ -31,8 +31,8 @@ put_lines-requires c =
 pub put_lines-requires-then-thermal_limit_active : goal.put_lines-requires-then-thermal_limit_active
 unfolding thermal_in
 put_lines-requires-then-thermal_limit_active c =
-    let p = cone-ready c.args.p.now.given c.column_count-v.ensures c.args.d c.thermal_from-a.ensures in
-    let q = cone-ready c.args.p.now.given c.column_count-v.ensures c.args.d c.thermal_to-b.ensures in
+    let p = cone-ready c.args.p.now.given c.column_count-v.ensures c.args.d c.thermal-a.ensures in
+    let q = cone-ready c.args.p.now.given c.column_count-v.ensures c.args.d c.thermal-b.ensures in
     let r = c.branch-r.ensures in
     let e = bit_at r.bytes r.place c.thermal_limit_active.ensures c.if-thermal_limit_active.true in
     let h = simp length-append at (rw e at c.requires.room) in
@@ -41,8 +41,8 @@ put_lines-requires-then-thermal_limit_active c =
 pub returns-then-thermal_limit_active : goal.returns-then-thermal_limit_active
 unfolding thermal_in
 returns-then-thermal_limit_active c =
-    let p = cone-ready c.args.p.now.given c.column_count-v.ensures c.args.d c.thermal_from-a.ensures in
-    let q = cone-ready c.args.p.now.given c.column_count-v.ensures c.args.d c.thermal_to-b.ensures in
+    let p = cone-ready c.args.p.now.given c.column_count-v.ensures c.args.d c.thermal-a.ensures in
+    let q = cone-ready c.args.p.now.given c.column_count-v.ensures c.args.d c.thermal-b.ensures in
     let r = c.branch-r.ensures in
     let e = bit_at r.bytes r.place c.thermal_limit_active.ensures c.if-thermal_limit_active.true in
     rw e (then (rw p.same at c.put_lines.ensures) (rw q.same at c.put_lines-then-thermal_limit_active.ensures))

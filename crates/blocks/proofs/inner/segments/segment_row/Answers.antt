@@ -2,7 +2,7 @@ use Rattle.complementarity.proofs.Laws.{ready}
 use Rattle.blocks.proofs.inner.segments.segment_row.Goals as goal
 
 pub segment-line-requires : goal.segment-line-requires
-segment-line-requires c = record { laid = c.args.p.now.net.laid; g_lt_k = c.requires.g_lt_k; segments_value = c.requires.before_value }
+segment-line-requires c = record { g_lt_k = c.requires.g_lt_k; segments_value = c.requires.before_value }
 
 pub put_row-requires : goal.put_row-requires
 put_row-requires c =

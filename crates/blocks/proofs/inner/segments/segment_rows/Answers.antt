@@ -1,6 +1,7 @@
 use Rattle.std.proofs.Common.{ap, ◌∙◌, arith}
 use Rattle.lists.specs.UpTo.{bit}
-use Rattle.lists.proofs.Sums.{count-le}
+use Rattle.lists.proofs.Sums.{bit_le, count-le}
+use Rattle.lists.proofs.Tests.{as_bit}
 use Rattle.lists.proofs.Puts.{no-turn, turn, room}
 use Rattle.records.proofs.Segments.{segments-below}
 use Rattle.numbering.specs.Network.{grid}
@@ -25,7 +26,8 @@ pub overflow_add-curves : goal.overflow_add-curves
 overflow_add-curves c =
     let net = c.args.p.now.net in
     let q = net.laid.range in
-    omega (arith, c.bit-curves.ensures.upper_bound, c.loop-g.invariant.2, count-le c.loop-g.g (grid net).piecewise)
+    let one = c.from-curves.ensures ∙ as_bit c.piecewise.result in
+    omega (arith, one, bit_le c.piecewise.result, c.loop-g.invariant.2, count-le c.loop-g.g (grid net).piecewise)
 
 pub loop-g-preserved : goal.loop-g-preserved
 loop-g-preserved c =
@@ -35,5 +37,5 @@ loop-g-preserved c =
     let curve = rw (r.bytes, r.place) at c.piecewise.ensures in (
       turn _ _ i.0 c.segments_of.ensures,
       sum_more _ _ _ i.1 n,
-      count-more c.loop-g.g (grid c.args.p.now.net).piecewise _ i.2 (c.bit-curves.ensures.value ∙ ap bit curve),
+      count-more c.loop-g.g (grid c.args.p.now.net).piecewise _ i.2 (c.from-curves.ensures ∙ as_bit _ ∙ ap bit curve),
     )

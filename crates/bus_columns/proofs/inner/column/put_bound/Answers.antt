@@ -1,6 +1,6 @@
 -- `bus_columns::inner::column::put_bound` meets its contract: where the bound is active, both rows are written at their numbers. Assumes nothing.
-use Rattle.std.proofs.Common.{refl, sym, ◌∙◌, arith}
-use Rattle.lists.proofs.Compressed.{then, wrote_none}
+use Rattle.std.proofs.Common.{refl, sym, ◌∙◌}
+use Rattle.cells.proofs.Puts.{then, none}
 use Rattle.numbering.specs.declared.RowName.TheVariants.{Wub, Wlb}
 use Rattle.numbering.proofs.Laid.{laid-row}
 use Rattle.matrix.specs.Columns.{bound_cells}
@@ -9,14 +9,17 @@ use Rattle.bus_columns.proofs.inner.column.put_bound.Goals as goal
 pub returns-then-voltage_bound_active : goal.returns-then-voltage_bound_active
 unfolding bound_cells
 returns-then-voltage_bound_active c =
-    let a = c.args in
-    let x = c.put-next.ensures in
-    let y = c.put.ensures in
-    let row = laid-row a.l a.bytes.now c.requires.laid in
-    let upper = rw (c.wub_row-upper.ensures ∙ row (Wub a.i) refl) at x.wrote_cells in
-    let lower = rw (c.wlb_row-lower.ensures ∙ row (Wlb a.i) refl) at y.wrote_cells in
-    record { wrote_cells = rw (sym c.voltage_bound_active.ensures ∙ c.if-voltage_bound_active.true) (then upper lower); upper_bound = omega (arith, x.upper_bound, y.upper_bound) }
+    let i = c.args.i in
+    let b = c.bus.ensures in
+    let row = laid-row _ _ c.args.net.now.laid in
+    let upper = rw (c.wub_row-upper.ensures ∙ row (Wub i) refl) at c.put.ensures.puts in
+    let lower = rw (c.wlb_row-lower.ensures ∙ row (Wlb i) refl) at c.put-then-voltage_bound_active.ensures.puts in
+    let at = rw (b.place, b.bytes) at c.voltage_bound_active.ensures in
+    rw (sym at ∙ c.if-voltage_bound_active.true) (then upper lower)
 
-pub returns : goal.returns
+pub returns-else-voltage_bound_active : goal.returns-else-voltage_bound_active
 unfolding bound_cells
-returns c = record { wrote_cells = rw (sym c.voltage_bound_active.ensures ∙ c.if-voltage_bound_active.false) wrote_none; upper_bound = omega arith }
+returns-else-voltage_bound_active c =
+    let b = c.bus.ensures in
+    let at = rw (b.place, b.bytes) at c.voltage_bound_active.ensures in
+    rw (sym at ∙ c.if-voltage_bound_active.false) none

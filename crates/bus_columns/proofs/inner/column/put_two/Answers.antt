@@ -1,25 +1,21 @@
 -- `bus_columns::inner::column::put_two` meets its contract. Assumes nothing.
-use Rattle.std.proofs.Common.{arith}
-use Rattle.lists.proofs.Compressed.{then, pos}
-use Rattle.numbering.specs.Laid.{net_of}
-use Rattle.bus_columns.proofs.Gathered.{still}
+use Rattle.std.proofs.Common.{arith, length-append}
+use Rattle.cells.proofs.Puts.{then, pos}
+use Rattle.numbering.specs.Network.{grid}
+use Rattle.bus_columns.specs.Ends.{ohms_of}
 use Rattle.bus_columns.proofs.inner.column.put_two.Goals as goal
 
 pub put_ohms-requires : goal.put_ohms-requires
 put_ohms-requires c =
-    let G = net_of c.args.l c.args.bytes.now in
-    let h = c.requires in
-    let w = c.put_ohms-next.ensures in
-    let p = pos w.wrote_cells in
-    record {
-      laid = h.laid;
-      ends_len_bound = (h.ends_len_bound.0, omega (arith, w.upper_bound, h.ends_len_bound, h.laid.accepted.few-branches));
-      gathered = still G w.wrote_cells (omega (arith, p, h.two_bound)) h.gathered;
-      q_bound = omega (arith, p, h.two_bound);
-    }
+    let a = c.args in
+    let ohms = ohms_of (grid a.from.now.net) a.ends.now in
+    record { room = omega (arith, length-append (ohms a.p) (ohms a.q), c.requires.room) }
+
+pub put_ohms-requires-2 : goal.put_ohms-requires-2
+put_ohms-requires-2 c =
+    let a = c.args in
+    let ohms = ohms_of (grid a.from.now.net) a.ends.now in
+    record { room = omega (arith, length-append (ohms a.p) (ohms a.q), pos c.put_ohms.ensures, c.requires.room) }
 
 pub returns : goal.returns
-returns c =
-    let x = c.put_ohms-next.ensures in
-    let y = c.put_ohms.ensures in
-    record { wrote_cells = then x.wrote_cells y.wrote_cells; upper_bound = omega (arith, x.upper_bound, y.upper_bound) }
+returns c = then c.put_ohms.ensures c.put_ohms-2.ensures

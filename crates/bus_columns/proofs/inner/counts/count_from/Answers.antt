@@ -1,10 +1,8 @@
 -- `bus_columns::inner::counts::count_from` meets its contract: the two of the cone are always there. Assumes nothing.
 use Rattle.std.proofs.Common.{arith}
-use Rattle.numbering.specs.Laid.{net_of}
+use Rattle.numbering.specs.Network.{grid}
 use Rattle.bus_columns.proofs.Counts.{from-rows}
 use Rattle.bus_columns.proofs.inner.counts.count_from.Goals as goal
 
 pub returns-clause-value : goal.returns-clause-value
-returns-clause-value c =
-    let a = c.args in
-    omega (arith, from-rows (net_of a.l a.bytes.now) a.e, c.count_two.ensures.value)
+returns-clause-value c = omega (arith, from-rows (grid c.args.net.now) c.args.e, c.count_two.ensures.value)

@@ -3,7 +3,7 @@ use Rattle.std.proofs.Common.{ℕ, ◌≤◌, sym, ap, ◌∙◌, arith, length,
 use Rattle.lists.specs.UpTo.{overlay}
 use Rattle.refusals.proofs.Laws.{ends, left_stopped, answer-held, left-written}
 use Rattle.rows.specs.Rows.{zero64}
-use Rattle.numbering.specs.Laid.{net_of}
+use Rattle.numbering.specs.Network.{grid}
 use Rattle.admittance.specs.Stores.{stored_all}
 use Rattle.columns.specs.Jacobian.{jacobian, stores}
 use Rattle.columns.proofs.Causes.{column-room, column-index, stored-front}
@@ -18,19 +18,19 @@ returns-in_err-column_cause c =
 pub fill-requires : goal.fill-requires
 fill-requires c =
     let a = c.args in
-    let r = column-room (net_of a.l a.bytes.now) a.p a.i _ _ _ (sym c.column_cause.ensures ∙ c.in_ok-column_cause.was) in
+    let r = column-room (grid a.net.now) a.p a.i _ _ _ (sym c.column_cause.ensures ∙ c.in_ok-column_cause.was) in
     rw c.dim-need.ensures r
 
 pub slice_bounds-write-end : goal.slice_bounds-write-end
 slice_bounds-write-end c =
     let a = c.args in
-    let r = column-room (net_of a.l a.bytes.now) a.p a.i _ _ _ (sym c.column_cause.ensures ∙ c.in_ok-column_cause.was) in
+    let r = column-room (grid a.net.now) a.p a.i _ _ _ (sym c.column_cause.ensures ∙ c.in_ok-column_cause.was) in
     omega (arith, r, c.dim-need.ensures, c.fill.auto.d)
 
 pub slice_bounds-write-end-2 : goal.slice_bounds-write-end-2
 slice_bounds-write-end-2 c =
     let a = c.args in
-    let r = column-room (net_of a.l a.bytes.now) a.p a.i _ _ _ (sym c.column_cause.ensures ∙ c.in_ok-column_cause.was) in
+    let r = column-room (grid a.net.now) a.p a.i _ _ _ (sym c.column_cause.ensures ∙ c.in_ok-column_cause.was) in
     let s : c.dim-need.result ≤ length c.fill.new.d = omega (arith, r, c.dim-need.ensures, c.fill.auto.d) in
     sym (length-take-le _ _ s)
 
@@ -38,11 +38,7 @@ pub write-requires : goal.write-requires
 write-requires c =
     let a = c.args in
     let h = sym c.column_cause.ensures ∙ c.in_ok-column_cause.was in
-    record {
-      laid = c.requires.laid;
-      i_bound = column-index (net_of a.l a.bytes.now) a.p a.i _ _ _ h;
-      before_value = c.requires.before_value;
-    }
+    record { i_bound = column-index (grid a.net.now) a.p a.i _ _ _ h; before_value = c.requires }
 
 pub returns : goal.returns
 unfolding jacobian
@@ -50,7 +46,7 @@ returns c =
     let a = c.args in
     let h = sym c.column_cause.ensures ∙ c.in_ok-column_cause.was in
     let need = c.dim-need.ensures in
-    let ss = stores (net_of a.l a.bytes.now) a.x.now a.z.now a.p a.i in
+    let ss = stores (grid a.net.now) a.x.now a.z.now a.p a.i in
     record {
       value = ap Ok need ∙ sym (answer-held _ h);
       column_after =

@@ -3,4 +3,4 @@ use Rattle.numbering.proofs.Laid.{laid-nvar, laid-ncon}
 use Rattle.columns.proofs.inner.column.dim.Goals as goal
 
 pub returns : goal.returns
-returns c = cc (laid-nvar c.args.l c.args.bytes.now c.requires, laid-ncon c.args.l c.args.bytes.now c.requires)
+returns c = let h = c.args.net.now.laid in cc (laid-nvar _ _ h, laid-ncon _ _ h)

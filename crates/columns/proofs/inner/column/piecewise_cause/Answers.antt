@@ -1,5 +1,5 @@
 -- A coefficient of a cost is a generator's, whose record is looked at.
-use Rattle.std.proofs.Common.{◌≡◌, refl, sym, ◌∙◌, true, false, arith}
+use Rattle.std.proofs.Common.{◌≡◌, refl, sym, ◌∙◌, true, false}
 use Rattle.refusals.proofs.Laws.{held}
 use Rattle.elements.specs.Lengths.{asks_cost}
 use Rattle.columns.specs.Jacobian.{piecewise_cause}
@@ -12,26 +12,14 @@ returns-then-not-asks_cost c =
     let e : asks_cost c.args.p ≡ false = sym c.asks_cost.ensures ∙ c.if-not-asks_cost.true in
     rw e (sym (held _ _ refl))
 
-pub overflow_add-r : goal.overflow_add-r
-overflow_add-r c =
-    let l = c.args.l in
-    let below = cost-below l.n l.m l.k c.args.i c.args.p (sym c.asks_cost.ensures ∙ c.if-not-asks_cost.false) c.requires.i_bound in
-    omega (arith, below, c.requires.laid.range)
-
-pub piecewise-requires : goal.piecewise-requires
-piecewise-requires c =
-    let l = c.args.l in
-    let below = cost-below l.n l.m l.k c.args.i c.args.p (sym c.asks_cost.ensures ∙ c.if-not-asks_cost.false) c.requires.i_bound in
-    omega (arith, below, c.requires.laid.accepted.size)
-
-pub id-requires : goal.id-requires
-id-requires c =
-    let l = c.args.l in
-    let below = cost-below l.n l.m l.k c.args.i c.args.p (sym c.asks_cost.ensures ∙ c.if-not-asks_cost.false) c.requires.i_bound in
-    omega (arith, below, c.requires.laid.accepted.size)
+pub generator-r-requires : goal.generator-r-requires
+generator-r-requires c =
+    let l = c.args.net.now.layout in
+    cost-below l.n l.m l.k c.args.i c.args.p (sym c.asks_cost.ensures ∙ c.if-not-asks_cost.false) c.requires
 
 pub returns : goal.returns
 unfolding piecewise_cause
 returns c =
     let e : asks_cost c.args.p ≡ true = sym c.asks_cost.ensures ∙ c.if-not-asks_cost.false in
-    rw (e, ← c.piecewise.ensures, ← c.id.ensures) c.refuse_unless.ensures
+    let r = c.generator-r.ensures in
+    rw (e, ← r.bytes, ← r.place, ← c.piecewise.ensures, ← c.id.ensures) c.refuse_unless.ensures

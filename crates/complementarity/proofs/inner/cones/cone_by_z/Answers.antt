@@ -6,7 +6,7 @@ pub loop-l-init : goal.loop-l-init
 loop-l-init c = no-turn _
 
 pub put_by_z-requires : goal.put_by_z-requires
-put_by_z-requires c = record { held = c.requires.held; l_bound = room _ _ _ c.loop-l.invariant c.loop-l-test.true c.requires.j_bound }
+put_by_z-requires c = room _ _ _ c.loop-l.invariant c.loop-l-test.true c.requires
 
 pub loop-l-preserved : goal.loop-l-preserved
 loop-l-preserved c = turn _ _ c.loop-l.invariant c.put_by_z.ensures

@@ -6,11 +6,11 @@ use Rattle.complementarity.proofs.inner.cones.cone_row.Goals as goal
 
 pub cone_by_x-requires : goal.cone_by_x-requires
 unfolding cone_row_of
-cone_by_x-requires c = record { held = c.requires.held; j_bound = let h = simp length-append at c.requires.j_bound in omega arith }
+cone_by_x-requires c = let h = simp length-append at c.requires in omega arith
 
 pub cone_by_z-requires : goal.cone_by_z-requires
 unfolding cone_row_of
-cone_by_z-requires c = record { held = c.requires.held; j_bound = let h = simp length-append at c.requires.j_bound in omega (arith, pos c.cone_by_x.ensures) }
+cone_by_z-requires c = let h = simp length-append at c.requires in omega (arith, pos c.cone_by_x.ensures)
 
 pub returns : goal.returns
 unfolding cone_row_of

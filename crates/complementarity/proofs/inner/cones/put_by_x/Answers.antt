@@ -5,11 +5,11 @@ use Rattle.complementarity.proofs.inner.cones.put_by_x.Goals as goal
 
 pub put_scaled-requires : goal.put_scaled-requires
 unfolding by_x
-put_scaled-requires c = rw (c.line_of-to.ensures, c.line_of-line.ensures, c.arrow-a.ensures) (rw (rw c.arrow-a.ensures at c.if-a.true) at c.requires.l_bound)
+put_scaled-requires c = rw (c.number-r.ensures, c.at-line.ensures, c.arrow-a.ensures) (rw (rw c.arrow-a.ensures at c.if-a.true) at c.requires)
 
 pub returns-then-a : goal.returns-then-a
 unfolding by_x
-returns-then-a c = rw (rw c.arrow-a.ensures at c.if-a.true) (rw (c.line_of-to.ensures, c.line_of-line.ensures, c.arrow-a.ensures) at c.put_scaled.ensures)
+returns-then-a c = rw (rw c.arrow-a.ensures at c.if-a.true) (rw (c.number-r.ensures, c.at-line.ensures, c.arrow-a.ensures) at c.put_scaled.ensures)
 
 pub returns-else-a : goal.returns-else-a
 unfolding by_x

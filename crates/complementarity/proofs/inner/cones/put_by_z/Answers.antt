@@ -4,8 +4,8 @@ use Rattle.complementarity.proofs.inner.cones.put_by_z.Goals as goal
 
 pub put_if-requires : goal.put_if-requires
 unfolding by_z
-put_if-requires c = rw (c.line_of-to.ensures, c.line_of-line.ensures, c.arrow-a.ensures) c.requires.l_bound
+put_if-requires c = rw (c.number-r.ensures, c.number-q.ensures, c.arrow-a.ensures) c.requires
 
 pub returns : goal.returns
 unfolding by_z
-returns c = rw (c.line_of-to.ensures, c.line_of-line.ensures, c.arrow-a.ensures) at c.put_if.ensures
+returns c = rw (c.number-r.ensures, c.number-q.ensures, c.arrow-a.ensures) at c.put_if.ensures

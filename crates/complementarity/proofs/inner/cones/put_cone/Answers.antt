@@ -9,11 +9,11 @@ loop-j-init c = no-turn _
 
 pub cone_row-requires : goal.cone_row-requires
 unfolding cone_of
-cone_row-requires c = record { held = c.requires.held; j_bound = room _ _ _ c.loop-j.invariant c.loop-j-test.true c.requires.d_bound }
+cone_row-requires c = room _ _ _ c.loop-j.invariant c.loop-j-test.true c.requires
 
 pub loop-j-preserved : goal.loop-j-preserved
 loop-j-preserved c = turn _ _ c.loop-j.invariant c.cone_row.ensures
 
 pub returns : goal.returns
 unfolding cone_of
-returns c = let e : c.loop-j.j ≡ c.args.d = omega arith in rw e at c.loop-j.invariant
+returns c = let e : c.loop-j.j ≡ c.args.k.d = omega arith in rw e at c.loop-j.invariant

@@ -9,11 +9,11 @@ loop-j-init c = no-turn _
 
 pub put_line-requires : goal.put_line-requires
 unfolding plain_cone
-put_line-requires c = rw c.line_of-line.ensures (room (plain_at c.args.nvar c.args.c) _ _ c.loop-j.invariant c.loop-j-test.true c.requires.d_bound)
+put_line-requires c = rw (c.number.ensures, c.at.ensures) (room (plain_at c.args.k.nvar c.args.k.cone) _ _ c.loop-j.invariant c.loop-j-test.true c.requires)
 
 pub loop-j-preserved : goal.loop-j-preserved
-loop-j-preserved c = turn _ _ c.loop-j.invariant (rw c.line_of-line.ensures at c.put_line.ensures)
+loop-j-preserved c = turn _ _ c.loop-j.invariant (rw (c.number.ensures, c.at.ensures) at c.put_line.ensures)
 
 pub returns : goal.returns
 unfolding plain_cone
-returns c = let e : c.loop-j.j ≡ c.args.d = omega arith in rw e at c.loop-j.invariant
+returns c = let e : c.loop-j.j ≡ c.args.k.d = omega arith in rw e at c.loop-j.invariant

@@ -2,15 +2,19 @@
 use Rattle.std.proofs.Common.{◌∙◌}
 use Rattle.ring.specs.Ops.{rounded}
 use Rattle.rows.specs.Branch.{branch_at}
-use Rattle.numbering.specs.Laid.{net_of}
+use Rattle.numbering.specs.Network.{grid}
 use Rattle.branch.proofs.Coefficients.{wr_of, wi_of}
 use Rattle.lines.proofs.Ohms.{ohm-stands}
 use Rattle.lines.proofs.inner.ohm.ohm_line.Goals as goal
 
 pub returns : goal.returns
 returns c =
-    let B = branch_at rounded (net_of c.args.l c.args.bytes.now) c.args.e in
+    let B = branch_at rounded (grid c.args.net.now) c.args.e in
     let k = c.args.q in
-    let y = c.wr_value-wr.ensures ∙ wr_of B k c.series-t.ensures in
-    let z = c.wi_value-wi.ensures ∙ wi_of B k c.series-t.ensures in
-    rw (c.ohm.ensures, c.end_bus-bus.ensures.value, c.ohm_row-row.ensures, c.flow_column-flow.ensures, c.w_at-w.ensures, y, z) (ohm-stands _ _ c.requires.laid k _ c.requires.e_lt_m)
+    let r = c.branch-r.ensures in
+    let t = rw (r.place, r.bytes) at c.series-t.ensures in
+    let x = rw (r.place, r.bytes) at c.w_at.ensures in
+    let y = c.wr_value.ensures ∙ wr_of B k t in
+    let z = c.wi_value.ensures ∙ wi_of B k t in
+    rw (c.w_column.ensures, c.wr_column.ensures, c.wi_column.ensures, c.end_bus.ensures.value, c.ohm_row.ensures, c.flow_column.ensures, x, y, z)
+    (ohm-stands _ _ c.args.net.now.laid k _ c.requires)

@@ -3,11 +3,11 @@ use Rattle.std.proofs.Common.{arith}
 use Rattle.numbering.proofs.Entered.{start_none, start-more}
 use Rattle.numbering.proofs.inner.blocks.block_of.Goals as goal
 
-pub loop-block-init : goal.loop-block-init
-loop-block-init c = omega (arith, start_none c.args.sizes.now)
+pub loop-item-init : goal.loop-item-init
+loop-item-init c = omega (arith, start_none c.args.sizes.now)
 
-pub returns-then-rest-here : goal.returns-then-rest-here
-returns-then-rest-here c = record { in_block = record { inside = c.if-rest-here.true; number = c.loop-block.invariant }; item_in_bounds = omega arith }
+pub returns-then-rest-size-clause-in_block : goal.returns-then-rest-size-clause-in_block
+returns-then-rest-size-clause-in_block c = record { inside = c.if-rest-size.true; number = c.loop-item.invariant }
 
-pub loop-block-preserved : goal.loop-block-preserved
-loop-block-preserved c = omega (arith, start-more c.args.sizes.now c.loop-block.block)
+pub loop-item-preserved : goal.loop-item-preserved
+loop-item-preserved c = omega (arith, start-more c.args.sizes.now c.loop-item.item)

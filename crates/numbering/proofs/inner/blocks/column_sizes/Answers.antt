@@ -1,5 +1,5 @@
 -- `numbering::inner::blocks::column_sizes` meets its contract: each length is that of the table's block. Assumes nothing.
-use native.Mathlib.Nat.{one-mul}
+use Rattle.std.proofs.Common.{one-mul}
 use Rattle.numbering.specs.Blocks.{size, start}
 use Rattle.numbering.specs.Numbering.{column_table}
 use Rattle.numbering.specs.Layout.{layout_columns, sizes_of}

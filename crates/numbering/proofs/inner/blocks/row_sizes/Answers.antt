@@ -1,5 +1,5 @@
 -- `numbering::inner::blocks::row_sizes` meets its contract: each length is that of the table's block. Assumes nothing.
-use native.Mathlib.Nat.{one-mul}
+use Rattle.std.proofs.Common.{one-mul}
 use Rattle.numbering.specs.Blocks.{size, start}
 use Rattle.numbering.specs.Numbering.{row_table}
 use Rattle.numbering.specs.Layout.{layout_rows, sizes_of}

@@ -4,4 +4,4 @@ use Rattle.numbering.specs.Tally.{tally_of}
 use Rattle.numbering.proofs.inner.tally.locate.Given as goal
 
 abbrev pub invariant-loop-i : goal.invariant-loop-i
-invariant-loop-i l = tally_of l.t l.b l.first l.i + l.rest ≡ l.p
+invariant-loop-i l = tally_of l.t l.run.bytes.now l.run.first l.i + l.rest ≡ l.p

@@ -8,6 +8,6 @@ use Rattle.quadratic.proofs.inner.linear.fill_costs.Given as goal
 abbrev pub invariant-loop-g : goal.invariant-loop-g
 invariant-loop-g l =
     record {
-      room : l.pg + l.l.k ≤ length l.initial.out;
-      filled : Filled (listed l.g (linear_cost l.l l.bytes)) l.initial.out l.pg l.out;
+      room : l.pg + l.net.layout.k ≤ length l.initial.out;
+      filled : Filled (listed l.g (linear_cost l.net.layout l.net.bytes.now)) l.initial.out l.pg l.out;
     }

@@ -9,11 +9,11 @@ use Rattle.quadratic.proofs.inner.linear.fill_q.Goals as goal
 
 pub fill_all-requires-2 : goal.fill_all-requires-2
 fill_all-requires-2 c =
-    let l = c.args.l in
-    omega (arith, c.requires.l_in_bounds, kept-length c.fill_all.ensures, kept-length c.fill_costs.ensures, layout-column l (CostOf 0), layout-nvar l)
+    let l = c.args.net.now.layout in
+    omega (arith, c.requires, kept-length c.fill_all.ensures, kept-length c.fill_costs.ensures, layout-column l (CostOf 0), layout-nvar l)
 
 pub returns : goal.returns
 returns c =
-    let l = c.args.l in
-    linear_runs l c.args.bytes.now c.requires.laid _ c.requires.l_in_bounds (rw c.column_count-all.ensures at c.fill_all.ensures)
+    let l = c.args.net.now.layout in
+    linear_runs l c.args.net.now.bytes.now c.args.net.now.laid _ c.requires (rw c.column_count-all.ensures at c.fill_all.ensures)
     (one-run c.fill_costs.ensures then_runs one-run (rw c.cost_column-cost.ensures at c.fill_all-2.ensures))

@@ -1,27 +1,18 @@
--- `record_columns::inner::branches::put_wi` meets its contract: the Ohm rows, the angle rows, then the cone's third row. Assumes nothing.
-use Rattle.std.proofs.Common.{refl, ◌∙◌, arith}
-use Rattle.lists.proofs.Compressed.{then}
-use Rattle.numbering.specs.declared.RowName.TheVariants.{Angub, Anglb, Jabr}
+use Rattle.std.proofs.Common.{refl, ◌∙◌}
+use Rattle.numbering.specs.declared.RowName.TheVariants.{Jabr}
 use Rattle.numbering.proofs.Laid.{laid-row}
 use Rattle.matrix.specs.Columns.{wi_cells}
-use Rattle.record_columns.specs.Writers.{bounds}
+use Rattle.cells.proofs.Puts.{then}
+use Rattle.record_columns.specs.Writers.{wi_angles}
 use Rattle.record_columns.proofs.Written.{wi_are}
 use Rattle.record_columns.proofs.inner.branches.put_wi.Goals as goal
 
-pub returns : goal.returns
-unfolding wi_cells bounds
-returns c =
-    let a = c.args in
-    let b = a.bytes.now in
-    let row = laid-row a.l b c.requires.laid in
-    let x = c.put_products-a1.ensures in
-    let y = c.put_bounds-a2.ensures in
-    let z = c.put.ensures in
-    let p = wi_are a.l b a.e c.wi_products-p.ensures c.series.ensures in
-    let upper = c.angub_row-upper.ensures ∙ row (Angub a.e) refl in
-    let lower = c.anglb_row-lower.ensures ∙ row (Anglb a.e) refl in
-    let j = c.jabr_row-cone.ensures ∙ row (Jabr a.e 2) refl in
-    record {
-      wrote_cells = then (then (rw p at x.wrote_cells) (rw (c.conic_angle_bound_active-on.ensures, upper, lower) at y.wrote_cells)) (rw j at z.wrote_cells);
-      upper_bound = omega (arith, x.upper_bound, y.upper_bound, z.upper_bound);
-    }
+pub returns-clause-puts : goal.returns-clause-puts
+unfolding wi_cells wi_angles
+returns-clause-puts c =
+    let net = c.args.net.now in
+    let e = c.args.e in
+    let r = c.branch-net.ensures in
+    let p = wi_are net.layout net.bytes.now e c.wi_products.ensures (rw (r.place, r.bytes) at c.series-t.ensures) in
+    let cone = c.jabr_row.ensures ∙ laid-row net.layout net.bytes.now net.laid (Jabr e 2) refl in
+    then (then (rw p at c.put_products.ensures.puts) c.put_wi_angles.ensures.puts) (rw cone at c.put.ensures.puts)

@@ -1,22 +1,24 @@
--- `record_columns::inner::branches::put_wr_angles` meets its contract: where the angle rows are active, both are written at their numbers. Assumes nothing.
-use Rattle.std.proofs.Common.{refl, sym, ◌∙◌, arith}
-use Rattle.lists.proofs.Compressed.{then, wrote_none}
+use Rattle.std.proofs.Common.{refl, sym, ◌∙◌}
 use Rattle.numbering.specs.declared.RowName.TheVariants.{Angub, Anglb}
 use Rattle.numbering.proofs.Laid.{laid-row}
+use Rattle.cells.proofs.Puts.{none, then}
 use Rattle.record_columns.specs.Writers.{wr_angles}
 use Rattle.record_columns.proofs.inner.branches.put_wr_angles.Goals as goal
 
-pub returns-then-conic_angle_bound_active : goal.returns-then-conic_angle_bound_active
+pub returns-then-conic_angle_bound_active-clause-puts : goal.returns-then-conic_angle_bound_active-clause-puts
 unfolding wr_angles
-returns-then-conic_angle_bound_active c =
-    let a = c.args in
-    let row = laid-row a.l a.bytes.now c.requires.laid in
-    let x = c.put_nonzero-next.ensures in
-    let y = c.put_nonzero.ensures in
-    let upper = rw (c.angub_row-upper.ensures ∙ row (Angub a.e) refl, c.tan_angmax-tmax.ensures) at x.wrote_cells in
-    let lower = rw (c.anglb_row-lower.ensures ∙ row (Anglb a.e) refl, c.tan_angmin-tmin.ensures) at y.wrote_cells in
-    record { wrote_cells = rw (sym c.conic_angle_bound_active.ensures ∙ c.if-conic_angle_bound_active.true) (then upper lower); upper_bound = omega (arith, x.upper_bound, y.upper_bound) }
+returns-then-conic_angle_bound_active-clause-puts c =
+    let net = c.args.net.now in
+    let e = c.args.e in
+    let row = laid-row net.layout net.bytes.now net.laid in
+    let r = c.branch-r.ensures in
+    let upper = rw (c.angub_row.ensures ∙ row (Angub e) refl, c.tan_angmax.ensures, r.place, r.bytes) at c.put_nonzero.ensures.puts in
+    let lower = rw (c.anglb_row.ensures ∙ row (Anglb e) refl, c.tan_angmin.ensures, r.place, r.bytes) at c.put_nonzero-then-conic_angle_bound_active.ensures.puts in
+    let active = rw (r.place, r.bytes) at c.conic_angle_bound_active.ensures in
+    rw (sym active ∙ c.if-conic_angle_bound_active.true) (then upper lower)
 
-pub returns : goal.returns
+pub returns-else-conic_angle_bound_active-clause-puts : goal.returns-else-conic_angle_bound_active-clause-puts
 unfolding wr_angles
-returns c = record { wrote_cells = rw (sym c.conic_angle_bound_active.ensures ∙ c.if-conic_angle_bound_active.false) wrote_none; upper_bound = omega arith }
+returns-else-conic_angle_bound_active-clause-puts c =
+    let r = c.branch-r.ensures in
+    rw (sym (rw (r.place, r.bytes) at c.conic_angle_bound_active.ensures) ∙ c.if-conic_angle_bound_active.false) none

@@ -1,13 +1,15 @@
--- `record_columns::inner::generators::put_slopes` meets its contract. Assumes nothing.
 use Rattle.std.proofs.Common.{◌≤◌, ◌+◌}
 use Rattle.lists.specs.UpTo.{each}
-use Rattle.lists.specs.Compressed.{cell_out, WroteCells}
+use Rattle.numbering.specs.Layout.{layout_row}
+use Rattle.numbering.specs.declared.RowName.TheVariants.{Segment}
+use Rattle.cells.specs.Puts.{PutsCells}
 use Rattle.record_columns.specs.Writers.{slopes}
 use Rattle.record_columns.proofs.inner.generators.put_slopes.Given as goal
 
 abbrev pub invariant-loop-t : goal.invariant-loop-t
 invariant-loop-t l =
+    let N = l.net.layout in
     record {
-      bound : l.next ≤ l.at + l.t;
-      written : WroteCells (each l.t (slopes l.bytes l.first l.row)) (cell_out l.initial.rows l.initial.vals l.at) (cell_out l.rows l.vals l.next);
+      bound : l.cells.at ≤ l.initial.cells.at + l.t;
+      written : PutsCells (each l.t (slopes l.net.bytes.now (N.n + N.m + N.k + l.seg) (layout_row N (Segment l.seg 0)))) l.initial.cells l.cells;
     }

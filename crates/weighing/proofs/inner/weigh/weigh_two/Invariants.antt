@@ -1,4 +1,4 @@
-use Rattle.std.proofs.Common.{◌≡◌, ◌+◌, [], ◌∷◌, length, get_or}
+use Rattle.std.proofs.Common.{◌≡◌, [], ◌∷◌, length, get_or}
 use Rattle.std.specs.Float.{nan}
 use Rattle.lists.specs.Entries.{cell}
 use Rattle.lists.specs.Steps.{through}
@@ -8,5 +8,5 @@ use Rattle.weighing.proofs.inner.weigh.weigh_two.Given as goal
 
 abbrev pub invariant-loop-row : goal.invariant-loop-row
 invariant-loop-row l =
-    let cells = each (length l.yielded) (λ j. cell (get_or l.rows (l.first + j) 0) (get_or l.weights (l.first + j) nan) ∷ []) in
+    let cells = each (length l.yielded) (λ j. cell (get_or l.segment.rows.now j 0) (get_or l.segment.weights.now j nan) ∷ []) in
     (l.a ≡ through (weigh l.x l.base) cells l.fn.start.a) × (l.b ≡ through (weigh l.x l.other) cells l.fn.start.b)
