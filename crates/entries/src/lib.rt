@@ -5,7 +5,6 @@ mod whole;
 
 ghost use Rattle.std.specs.Prelude.{◌≡◌, length};
 ghost use Rattle.records.specs.Case.{case_network};
-ghost use Rattle.numbering.specs.Layout.{InRange};
 ghost use Rattle.numbering.specs.Network.{grid};
 ghost use Rattle.kkt.specs.Kkt.{kkt};
 ghost use Rattle.demand3.specs.Demand3.{entry_bound, Demanded};
@@ -15,15 +14,15 @@ ghost use Rattle.entries.specs.Answer.{room_cause, kkt_check, ListAnswered};
 
 use complementarity::Point;
 use lists::Triplets;
-use numbering::{Network, SocWrLayout};
+use numbering::Network;
 use records::Case;
 use refusals::{Refusal, room_for};
 use solution::inner::solution_cause;
 
-fn most(l: SocWrLayout) -> usize
-    requires { InRange l }
-    ensures { result ≡ entry_bound l }
+fn most(net: &Network<'_>) -> usize
+    ensures { result ≡ entry_bound net.now.layout }
 {
+    let l = net.layout;
     10 * l.n + 17 * l.k + 82 * l.m + 5 * l.s + 26 * l.t
 }
 
@@ -40,7 +39,7 @@ fn room_cause(need: usize, list: &Triplets<'_>) -> Result<(), Refusal>
 fn kkt_room(p: &Point<'_>, list: &Triplets<'_>) -> Result<(), Refusal>
     ensures { result ≡ room_cause (length (kkt (grid p.now.net) p.now.x.now p.now.z.now)) list.now.rows.now list.now.cols.now list.now.vals.now }
 {
-    if room_cause(most(p.net.layout), list).is_ok() {
+    if room_cause(most(&p.net), list).is_ok() {
         return Ok(());
     }
     room_cause(whole::kkt_count(p), list)

@@ -1,9 +1,9 @@
 -- What an accepted selector says. Assumes nothing.
-use Rattle.std.proofs.Common.{ℕ, ◌+◌, ◌≤◌, ◌≡◌, List, length, Float, eqb-true, leb-true, refl, Ok, Err}
+use Rattle.std.proofs.Common.{ℕ, ◌+◌, ◌≤◌, ◌≡◌, List, length, Float, eqb-true, leb-true}
 use Rattle.lists.proofs.Tests.{both}
-use Rattle.refusals.specs.Refusals.{Checked, passed, ◌or_else◌, answer_if, answer_number, written_value}
+use Rattle.refusals.specs.Refusals.{passed}
 use Rattle.refusals.proofs.Laws.{or_else_accepted, test-held, has_room}
-use Rattle.interface.specs.Selectors.{selector_room, selector_check, items_of, selected_value}
+use Rattle.interface.specs.Selectors.{selector_room, selector_check}
 
 -- ---- what fits
 pub record Room (items starts rows weights elements : ℕ) : Type 0 where
@@ -32,14 +32,3 @@ fitting h =
     let a = or_else_accepted _ _ h in
     let t = both _ _ (test-held _ _ a.0) in
     record { same = eqb-true _ _ t.0; few = leb-true _ _ t.1; room = roomy _ _ _ _ _ a.1 }
-
--- ---- without its sign an answer says what is written
-pub selected-number : (c : Checked) (i : ℕ) (v : Float) → answer_number (answer_if c (items_of i v)) ≡ answer_number (answer_if c i)
-unfolding ◌or_else◌
-selected-number (Ok u) i v = refl
-selected-number (Err cause) i v = refl
-
-pub selected-value : (c : Checked) (i : ℕ) (v : Float) → selected_value (answer_if c (items_of i v)) ≡ written_value (answer_if c i)
-unfolding ◌or_else◌
-selected-value (Ok u) i v = refl
-selected-value (Err cause) i v = refl

@@ -1,8 +1,8 @@
 -- Tests joined by `&&`, and tests as numbers. Assumes nothing.
-use Rattle.std.proofs.Common.{ℕ, ◌+◌, ◌<◌, ◌≡◌, refl, sym, Bool, true, false, ◌&&◌}
+use Rattle.std.proofs.Common.{ℕ, ◌<◌, ◌≡◌, refl, Bool, true, false, ◌&&◌}
 use mir.Val.{bool_byte}
-use Rattle.lists.specs.UpTo.{up_to, all, bit}
-use Rattle.lists.proofs.UpTo.{up_to-more, up_to-each}
+use Rattle.lists.specs.UpTo.{all, bit}
+use Rattle.lists.proofs.UpTo.{up_to-each}
 
 -- what `usize::from` makes of a test
 pub as_bit : (b : Bool) → bool_byte b ≡ bit b
@@ -15,14 +15,6 @@ both false true h = (h, refl)
 both false false h = (h, h)
 
 module _ (f : ℕ → Bool) where
-  -- a loop that joins the tests: no turn, and one turn more
-  pub all_none : true ≡ all 0 f
-  unfolding up_to
-  all_none = refl
-
-  pub all-next : (i : ℕ) (b : Bool) → b ≡ all i f → b && f i ≡ all (i + 1) f
-  all-next i b p = rw p (sym (up_to-more ◌&&◌ true f i))
-
   -- all of them passed
   pub all-at : (n : ℕ) → all n f ≡ true → (i : ℕ) → i < n → f i ≡ true
   all-at n h i l = up_to-each ◌&&◌ true f both n h i l

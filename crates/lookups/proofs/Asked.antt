@@ -1,8 +1,10 @@
 -- What is answered when a key's number is asked: in each block the tests of the index and of the place, and then the number.
-use Rattle.std.proofs.Common.{ℕ, zero, suc, ◌*◌, ◌<◌, ◌≤◌, ◌≡◌, refl, ap, ◌∙◌, Bool, true, false, cond, List, length, ltb, arith, lt-ltb, le-ltb, ne_eqb, one-mul, Some, None, Ok, Err}
+use Rattle.std.proofs.Common.{ℕ, zero, suc, ◌*◌, ◌<◌, ◌≤◌, ◌≡◌, refl, ap, ◌∙◌, Bool, true, false, cond, List, length, ltb, arith, lt-ltb, le-ltb, ne_eqb, one-mul, Some, None, Ok, Err, IsErrAnd}
 use Rattle.lists.specs.UpTo.{bit}
-use Rattle.refusals.specs.Refusals.{◌or_else◌, refuse_unless}
+use Rattle.refusals.specs.Refusals.{Checked, passed, ◌or_else◌, refuse_unless}
+use Rattle.refusals.specs.declared.Refusal.{Refusal}
 use Rattle.refusals.specs.declared.Refusal.TheVariants.{PastEnd}
+use Rattle.refusals.proofs.Laws.{ends, went_on}
 use Rattle.records.specs.AcNetwork.{AcNetwork}
 use Rattle.numbering.specs.Blocks.{Block, alike, records, points, block_at, number_of, key}
 use Rattle.numbering.specs.Numbering.{column_blocks, column_number, row_blocks, row_number, column_many, row_many, cost_columns, cost_rows, jabr_rows, thermal_rows}
@@ -15,6 +17,25 @@ use Rattle.lookups.specs.Lookups.{Lookup, asked, column_has, row_has, column_ask
 -- the test of an index below w, and what is answered past it
 abbrev pub below : ℕ → ℕ → Lookup → Lookup
 below i w a = refuse_unless (ltb i w) (PastEnd i) or_else a
+
+-- an answer by three tests: of the record's index, whether the record has points, and of the place
+abbrev tested : ℕ → ℕ → Bool → ℕ → ℕ → Lookup → Lookup
+tested i n t q w found = below i n (cond t (below q w found) (Ok None))
+
+module _ (i n : ℕ) (t : Bool) (q w : ℕ) (found : Lookup) {r : Checked} (index : r ≡ refuse_unless (ltb i n) (PastEnd i)) where
+  pub past-index : {out : Lookup} {cause : Refusal} → IsErrAnd out (λ e. e ≡ cause) → r ≡ Err cause → out ≡ tested i n t q w found
+  past-index h e = ends _ h e index
+
+  module _ (inside : r ≡ passed) where
+    pub no-points : t ≡ false → Ok None ≡ tested i n t q w found
+    no-points e = went_on index inside (rw e refl)
+
+    module _ (has : t ≡ true) {s : Checked} (place : s ≡ refuse_unless (ltb q w) (PastEnd q)) where
+      pub past-place : {out : Lookup} {cause : Refusal} → IsErrAnd out (λ e. e ≡ cause) → s ≡ Err cause → out ≡ tested i n t q w found
+      past-place h e = went_on index inside (rw has (ends _ h e place))
+
+      pub point : {out : Lookup} → s ≡ passed → out ≡ found → out ≡ tested i n t q w found
+      point e p = went_on index inside (rw has (went_on place e p))
 
 module _ (bs : List Block) (has : Bool) (x : Key) where
   pub ask_block : length bs ≤ x.block → Err (PastEnd x.block) ≡ asked bs has x
@@ -57,6 +78,16 @@ module _ {A : Type 0} (G : AcNetwork A) where
 
   pub row_has_lem : (j i q : ℕ) → j < cost_rows → row_has G (key j i q) ≡ true
   row_has_lem j i q l = rw (ne_eqb j cost_rows (λ e. omega arith), ne_eqb j thermal_rows (λ e. omega arith))
+
+  -- the answers in a block that has one column or row for each of its w records
+  module _ (j i q w : ℕ) where
+    pub ask_column : j < cost_columns → block_at (column_blocks G) j ≡ alike w 1 → below i w (below q 1 (Ok (Some (number_of (column_blocks G) (key j i 0))))) ≡ column_asked G (key j i q)
+    unfolding column_asked
+    ask_column l here = ask_plain (column_blocks G) _ j i q w (column-among j (omega arith)) here (column-has j i q l)
+
+    pub ask_row : j < cost_rows → block_at (row_blocks G) j ≡ alike w 1 → below i w (below q 1 (Ok (Some (number_of (row_blocks G) (key j i 0))))) ≡ row_asked G (key j i q)
+    unfolding row_asked
+    ask_row l here = ask_plain (row_blocks G) _ j i q w (row-among j (omega arith)) here (row_has_lem j i q l)
 
   -- the answers in the blocks whose records differ, and in that of four rows to a branch
   module _ (g q : ℕ) where

@@ -1,3 +1,4 @@
 pub mod Asked
+pub mod Ranks
 pub mod Theorem
 pub mod Order

@@ -1,7 +1,7 @@
 -- Answers after a check, and what blocks' lengths give of blocks. Assumes nothing.
 use Rattle.std.proofs.Common.{ℕ, zero, suc, ◌+◌, ◌*◌, ◌<◌, ◌≤◌, ◌≡◌, refl, sym, ap, ◌∙◌, List, [], ◌∷◌, length, get_or, arith, add-one, one-mul}
 use Rattle.lists.specs.UpTo.{up_to}
-use Rattle.lists.proofs.Sums.{sum-next, sum-later, sum-some}
+use Rattle.lists.proofs.Sums.{sum-next}
 use Rattle.numbering.specs.Blocks.{Block, alike, size, records, start, block_at, before, number_of, key}
 use Rattle.numbering.specs.Numbering.{column_table, row_table, column_many, row_many, jabr_rows, thermal_rows}
 use Rattle.numbering.specs.Layout.{layout_columns, layout_rows, layout_row, sizes_of, start_in, InRange}
@@ -17,14 +17,6 @@ start-more ws b = sum-next b (λ j. get_or ws j 0)
 pub start_none : (ws : List ℕ) → start_in ws 0 ≡ 0
 unfolding start_in up_to
 start_none ws = refl
-
-pub start-later : (ws : List ℕ) (i n p rest : ℕ) → i < n → p < start_in ws n → start_in ws i + rest ≡ p → get_or ws i 0 ≤ rest → i + 1 < n
-unfolding start_in
-start-later ws i n p rest = sum-later (λ j. get_or ws j 0) i n p rest
-
-pub start-some : (ws : List ℕ) (n p : ℕ) → p < start_in ws n → 0 < n
-unfolding start_in
-start-some ws = sum-some (λ j. get_or ws j 0)
 
 pub size-at : (bs : List Block) (b : ℕ) → get_or (sizes_of bs) b 0 ≡ size (block_at bs b)
 unfolding sizes_of size start

@@ -1,6 +1,6 @@
 -- Which layouts are in range, and what the layout of a network gives of its numbering. Assumes nothing.
-use Rattle.std.proofs.Common.{ℕ, ◌+◌, ◌<◌, ◌≡◌, refl, Bool, true, List, arith, leb-true, le-leb, Float}
-use Rattle.lists.specs.UpTo.{sum, bit, count}
+use Rattle.std.proofs.Common.{ℕ, ◌+◌, ◌<◌, ◌≡◌, refl, List, arith, leb-true, le-leb, Float}
+use Rattle.lists.specs.UpTo.{sum, count}
 use Rattle.lists.proofs.Sums.{count-le, sum-next, sum_mono}
 use Rattle.refusals.specs.Refusals.{refuse_unless, ◌or_else◌, passed}
 use Rattle.refusals.proofs.Laws.{or_else_accepted, test-held}
@@ -36,10 +36,6 @@ pub range-accepted : (l : SocWrLayout) → InRange l → layout_cause l ≡ pass
 unfolding layout_cause count_cause ◌or_else◌ refuse_unless
 range-accepted l h =
     rw (le-leb _ _ h.n-range, le-leb _ _ h.m-range, le-leb _ _ h.k-range, le-leb _ _ h.s-range, le-leb _ _ h.t-range, le-leb _ _ h.c-range)
-
--- one point where the test holds
-pub limited-points : {t : Bool} → t ≡ true → bit t ≡ 1
-limited-points e = rw e
 
 module _ (n m k s : ℕ) (b : List ℕ) where
   abbrev G : AcNetwork Float

@@ -11,6 +11,7 @@ use crate::SocWrLayout;
 use records::Case;
 use refusals::{Refusal, room_for};
 
+// Kept: a layout in range is asked alone, as at the layout's methods: `SocWrLayout::cones` has no records for a network.
 // All lengths, at the front of out.
 fn cones_into(l: SocWrLayout, out: &mut [u32])
     requires { (InRange l) × (cone_count l ≤ length out.old) }

@@ -1,7 +1,6 @@
 // P, q, A and b of an accepted network, into lent lists.
 ghost use Rattle.std.specs.Prelude.{◌≡◌, length};
 ghost use Rattle.refusals.specs.Refusals.{◌or_else◌, room_for as room_of, passed};
-ghost use Rattle.numbering.specs.Layout.{InRange};
 ghost use Rattle.numbering.specs.Network.{grid};
 ghost use Rattle.rows.specs.Program.{linear, matrix};
 ghost use Rattle.matrix.specs.Lists.{right_side, quadratic_matrix};
@@ -10,7 +9,7 @@ ghost use Rattle.program.specs.Answered.{FloatsWritten, ListsWritten};
 
 use assembly::inner::{count_a, fill_a};
 use cells::Compressed;
-use numbering::{Network, SocWrLayout};
+use numbering::Network;
 use quadratic::inner::linear::fill_q;
 use quadratic::inner::{count_p, fill_p};
 use refusals::{Refusal, room_for};
@@ -52,10 +51,10 @@ pub(crate) fn put_p(lists: &mut Compressed<'_>, net: &Network<'_>) -> Result<u64
     Ok(written as u64)
 }
 
-fn most(l: SocWrLayout) -> usize
-    requires { InRange l }
-    ensures { result ≡ most_a l }
+fn most(net: &Network<'_>) -> usize
+    ensures { result ≡ most_a net.now.layout }
 {
+    let l = net.layout;
     4 * l.n + 34 * l.m + 6 * l.k + 2 * l.s
 }
 
@@ -64,7 +63,7 @@ pub(crate) fn put_a(lists: &mut Compressed<'_>, net: &Network<'_>) -> Result<u64
     ensures { ListsWritten passed (matrix (grid net.now)) lists.old lists.new result }
 {
     room_for(net.layout.column_count() as usize + 1, lists.starts.len())?;
-    if entries_room(most(net.layout), lists).is_err() {
+    if entries_room(most(net), lists).is_err() {
         entries_room(count_a(net), lists)?;
     }
     let written = fill_a(lists, net);

@@ -1,18 +1,18 @@
 // The lists of x, as parts of the x that is lent.
 ghost use Rattle.std.specs.Prelude.{◌≡◌};
-ghost use Rattle.numbering.specs.Layout.{InRange, layout_column};
+ghost use Rattle.numbering.specs.Layout.{layout_column};
 ghost use Rattle.reading.specs.Reading.{part_column, part_count, part_of};
 
 use crate::SolutionList;
 use crate::checks::check_part;
-use numbering::SocWrLayout;
+use numbering::{Network, SocWrLayout};
 use records::Case;
 
 // The first column of a list, and how many it has.
-fn start_of(l: SocWrLayout, part: SolutionList) -> u32
-    requires { InRange l }
-    ensures { result ≡ layout_column l (part_column part 0) }
+fn start_of(net: &Network<'_>, part: SolutionList) -> u32
+    ensures { result ≡ layout_column net.now.layout (part_column part 0) }
 {
+    let l = net.layout;
     match part {
         SolutionList::Pg => l.pg_column(0),
         SolutionList::Qg => l.qg_column(0),
@@ -50,7 +50,7 @@ pub fn part<'a>(case: Case<'_>, x: &'a [f64], part: SolutionList) -> &'a [f64]
         return &x[..0];
     };
     let l = net.layout;
-    let start = start_of(l, part) as usize;
+    let start = start_of(&net, part) as usize;
     let end = start + count_of(l, part);
     &x[start..end]
 }

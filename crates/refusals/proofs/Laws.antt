@@ -55,12 +55,6 @@ failed t cause h = rw h
 pub has_room : (need there : ℕ) → room_for need there ≡ passed → need ≤ there
 has_room need there h = leb-true need there (test-held _ _ h)
 
-pub first-failed : {A : Type 0} {t : Bool} {cause : Refusal} {r : Result A Refusal} (c : Result A Refusal) → t ≡ false → r ≡ Err cause → r ≡ refuse_unless t cause or_else c
-first-failed {t = t} {cause = cause} c h e = e ∙ sym (or_else_refused c (failed t cause h))
-
-pub first-held : {A : Type 0} {t : Bool} (cause : Refusal) {r c : Result A Refusal} → t ≡ true → r ≡ c → r ≡ refuse_unless t cause or_else c
-first-held {t = t} cause {c = c} h e = e ∙ sym (or_else_passed c (held t cause h))
-
 -- ---- what is left in a lent list, and what is answered, where the check passed and where it refused
 module _ {A : Type 0} {c : Checked} where
   pub left-written : (xs ys : List A) → c ≡ passed → left_in c xs ys ≡ overlay xs ys

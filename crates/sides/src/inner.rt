@@ -1,5 +1,6 @@
 // b: a list of floats.
 // Kept: by index: i names the record too, and a turn writes in up to four stretches of the list.
+// Kept: five functions ask that the rows fit the list; a struct that holds it would hold b and a fact of another value, the network's rows.
 // Kept: (out, at), no Cells: a list of floats alone, and the places are those of the layout's rows, not the next ones.
 ghost use Rattle.std.specs.Prelude.{◌≡◌, ◌+◌, ◌≤◌, ◌<◌, length};
 ghost use Rattle.std.specs.Float.Ieee.{neg};

@@ -1,6 +1,5 @@
 // The column of a branch's series conductance or susceptance.
 ghost use Rattle.std.specs.Prelude.{◌≡◌, ◌<◌};
-ghost use Rattle.numbering.specs.Layout.{InRange};
 ghost use Rattle.numbering.specs.Network.{grid};
 ghost use Rattle.admittance.specs.Stores.{stored_all};
 ghost use Rattle.admittance.specs.Admittance.{series_stores};
@@ -12,7 +11,7 @@ use branch::inner::places::{from_bus, to_bus};
 use branch::inner::series;
 use branch::{ByOhmRow, Series};
 use interface::GB;
-use numbering::{Network, SocWrLayout};
+use numbering::Network;
 
 // The numbers of a branch's Ohm rows.
 pub type OhmRows = ByOhmRow<u32>;
@@ -26,11 +25,11 @@ pub struct OhmColumns {
     pub wi: u32,
 }
 
-fn ohm_rows(l: SocWrLayout, e: usize) -> OhmRows
-    requires in_range { InRange l }
-    requires e_lt_m { e < l.m }
-    ensures { RowsAre l e result }
+fn ohm_rows(net: &Network<'_>, e: usize) -> OhmRows
+    requires { e < net.now.layout.m }
+    ensures { RowsAre net.now.layout e result }
 {
+    let l = net.layout;
     ByOhmRow {
         pf: l.ohm_pf_row(e),
         qf: l.ohm_qf_row(e),
@@ -116,7 +115,7 @@ pub fn series_admittance(
     requires { e < net.now.layout.m }
     ensures { column.new ≡ stored_all (series_stores (grid net.now) x.now z.now gb e) column.old }
 {
-    let rows = ohm_rows(net.layout, e);
+    let rows = ohm_rows(net, e);
     let es = entries(rows, ohm_columns(net, e), series(net.branch(e)), gb);
     land_all(column, net.layout.column_count(), es, x, z);
 }

@@ -13,6 +13,7 @@ use crate::inner::stores::land;
 use interface::GB;
 use numbering::SocWrLayout;
 
+// Kept: a layout in range, no network, here and in `shunt`: no record is read, and a network would ask more of a caller.
 // Kept: elements' balance_row picks the same rows by the power of a price, not by the part of an admittance, and lets i be n.
 fn shunt_row(l: SocWrLayout, gb: GB, i: usize) -> u32
     requires in_range { InRange l }

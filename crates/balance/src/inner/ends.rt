@@ -1,6 +1,6 @@
 // The ends that balance rows add up: generators, and branches at their from and to buses.
 ghost use Rattle.std.specs.Prelude.{◌≡◌, ◌<◌};
-ghost use Rattle.numbering.specs.Layout.{InRange, layout_column};
+ghost use Rattle.numbering.specs.Layout.{layout_column};
 ghost use Rattle.numbering.specs.Network.{grid};
 ghost use Rattle.rows.specs.Rows.{constant64};
 ghost use Rattle.balance.specs.Ends.{end_count, bus_at, end_column, end_constant, self_value};
@@ -30,11 +30,11 @@ pub(crate) fn bus_at(net: &Network<'_>, end: End, j: usize) -> usize
 }
 
 // The column of end j in the active or the reactive balance rows.
-pub(crate) fn column_at(l: SocWrLayout, q: bool, end: End, j: usize) -> u32
-    requires in_range { InRange l }
-    requires j_bound { j < end_count l end }
-    ensures { result ≡ layout_column l (end_column q end j) }
+pub(crate) fn column_at(net: &Network<'_>, q: bool, end: End, j: usize) -> u32
+    requires { j < end_count net.now.layout end }
+    ensures { result ≡ layout_column net.now.layout (end_column q end j) }
 {
+    let l = net.layout;
     match (end, q) {
         (End::Gen, false) => l.pg_column(j),
         (End::Gen, true) => l.qg_column(j),

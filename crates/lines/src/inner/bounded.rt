@@ -1,7 +1,7 @@
 // The bounds of voltages, dispatches and angles.
 ghost use Rattle.std.specs.Prelude.{◌≡◌, ◌&&◌, ◌<◌};
 ghost use Rattle.std.specs.Float.Ieee.{ne};
-ghost use Rattle.numbering.specs.Layout.{InRange, layout_column};
+ghost use Rattle.numbering.specs.Layout.{layout_column};
 ghost use Rattle.numbering.specs.Network.{grid};
 ghost use Rattle.numbering.specs.declared.ColumnName.TheVariants.{Wr, Wi};
 ghost use Rattle.rows.specs.Rows.{zero64};
@@ -12,14 +12,14 @@ use super::{line, single, spot};
 use crate::Line;
 use bounds::inner::bound_side;
 use bounds::{BoundKind, Side};
-use numbering::{Network, SocWrLayout};
+use numbering::Network;
 
 // A row of branch e's angle, with v at wr and c at wi.
-fn angle(l: SocWrLayout, e: usize, row: u32, s: Side, v: f64, c: f64) -> Line
-    requires in_range { InRange l }
-    requires e_lt_m { e < l.m }
-    ensures { result ≡ line_of row s.rhs (spot_of (s.on && ne v zero64) (layout_column l (Wr e)) v) (spot_of s.on (layout_column l (Wi e)) c) }
+fn angle(net: &Network<'_>, e: usize, row: u32, s: Side, v: f64, c: f64) -> Line
+    requires { e < net.now.layout.m }
+    ensures { result ≡ line_of row s.rhs (spot_of (s.on && ne v zero64) (layout_column net.now.layout (Wr e)) v) (spot_of s.on (layout_column net.now.layout (Wi e)) c) }
 {
+    let l = net.layout;
     line(
         row,
         s.rhs,
@@ -48,7 +48,7 @@ pub fn bound_line(net: &Network<'_>, kind: BoundKind, i: usize) -> Line
             } else {
                 0.0
             };
-            angle(l, i, l.angub_row(i), s, v, 1.0)
+            angle(net, i, l.angub_row(i), s, v, 1.0)
         }
         BoundKind::Anglb => {
             let v = if s.on {
@@ -56,7 +56,7 @@ pub fn bound_line(net: &Network<'_>, kind: BoundKind, i: usize) -> Line
             } else {
                 0.0
             };
-            angle(l, i, l.anglb_row(i), s, v, -1.0)
+            angle(net, i, l.anglb_row(i), s, v, -1.0)
         }
     }
 }

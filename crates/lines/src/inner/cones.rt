@@ -1,7 +1,7 @@
 // The second-order cones of a branch.
 ghost use Rattle.std.specs.Prelude.{◌≡◌, true, ◌+◌, ◌<◌, ◌≤◌};
 ghost use Rattle.lists.specs.UpTo.{count};
-ghost use Rattle.numbering.specs.Layout.{InRange, layout_row};
+ghost use Rattle.numbering.specs.Layout.{layout_row};
 ghost use Rattle.numbering.specs.Network.{grid};
 ghost use Rattle.numbering.specs.declared.RowName.TheVariants.{Jabr, Thermal};
 ghost use Rattle.lines.specs.Line.{ends_line as ends_of, thermal as thermal_of, thermal_rows, row_at, ConeStands};
@@ -11,7 +11,7 @@ use crate::{Cone, Four, Line};
 use bounds::inner::rating;
 use branch::inner::places::{from_bus, to_bus};
 use interface::End;
-use numbering::{Network, SocWrLayout};
+use numbering::Network;
 
 impl<T: Copy> Four<T> {
     // The value of row l.
@@ -57,11 +57,11 @@ pub fn jabr(net: &Network<'_>, e: usize) -> Cone
 }
 
 // The three rows from place `first` on of the limited branch that has so many before it: rate at the first, then -1 at the flows p and q.
-fn thermal_cone(l: SocWrLayout, limits: usize, first: usize, rate: f64, p: u32, q: u32) -> Cone
-    requires in_range { InRange l }
-    requires limits_le_t { (limits ≤ l.t) × (first < 4) }
-    ensures { result ≡ thermal_of (layout_row l (Thermal limits first)) (layout_row l (Thermal limits (first + 1))) (layout_row l (Thermal limits (first + 2))) rate p q }
+fn thermal_cone(net: &Network<'_>, limits: usize, first: usize, rate: f64, p: u32, q: u32) -> Cone
+    requires { (limits ≤ net.now.layout.t) × (first < 4) }
+    ensures { result ≡ thermal_of (layout_row net.now.layout (Thermal limits first)) (layout_row net.now.layout (Thermal limits (first + 1))) (layout_row net.now.layout (Thermal limits (first + 2))) rate p q }
 {
+    let l = net.layout;
     let a = single(l.thermal_row(limits, first), rate, false, p, 0.0);
     let b = single(l.thermal_row(limits, first + 1), 0.0, true, p, -1.0);
     let c = single(l.thermal_row(limits, first + 2), 0.0, true, q, -1.0);
@@ -77,7 +77,7 @@ pub fn thermal(net: &Network<'_>, end: End, e: usize, limits: usize) -> Cone
     let l = net.layout;
     let rate = rating(net, e);
     match end {
-        End::From => thermal_cone(l, limits, 0, rate, l.pf_column(e), l.qf_column(e)),
-        End::To => thermal_cone(l, limits, 3, rate, l.pt_column(e), l.qt_column(e)),
+        End::From => thermal_cone(net, limits, 0, rate, l.pf_column(e), l.qf_column(e)),
+        End::To => thermal_cone(net, limits, 3, rate, l.pt_column(e), l.qt_column(e)),
     }
 }

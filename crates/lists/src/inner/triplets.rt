@@ -8,6 +8,7 @@ use crate::Triplets;
 use crate::inner::store;
 
 impl<'a> Triplets<'a> {
+    // Kept: the position grows with each entry, so each writer asks the bound that it needs; an invariant that bounds it would be broken by put itself.
     pub fn put(&mut self, r: u32, c: u32, v: f64)
         requires { self.old.at + 1 < 2 ^ 64 }
         ensures { Puts (entry r c v ∷ []) self.old self.new }

@@ -6,12 +6,12 @@ use Rattle.lines.proofs.inner.cones.thermal.Goals as goal
 pub thermal_cone-requires : goal.thermal_cone-requires
 thermal_cone-requires c =
     let laid = c.args.net.now.laid in
-    record { in_range = laid.range; limits_le_t = (limits_in _ _ laid _ _ c.requires.0 c.requires.2, omega arith) }
+    (limits_in _ _ laid _ _ c.requires.0 c.requires.2, omega arith)
 
 pub thermal_cone-requires-in-To : goal.thermal_cone-requires-in-To
 thermal_cone-requires-in-To c =
     let laid = c.args.net.now.laid in
-    record { in_range = laid.range; limits_le_t = (limits_in _ _ laid _ _ c.requires.0 c.requires.2, omega arith) }
+    (limits_in _ _ laid _ _ c.requires.0 c.requires.2, omega arith)
 
 pub returns-in-From : goal.returns-in-From
 returns-in-From c =
