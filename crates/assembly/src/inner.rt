@@ -135,6 +135,7 @@ fn fill_all(starts: &mut [u32], cells: &mut Cells<'_>, net: &Network<'_>)
 }
 
 // All of A from the front of the lists on, and how many entries it has.
+// Kept: the likeness with P's is how lists become cells, as at quadratic's `fill_p`.
 pub fn fill_a(lists: &mut Compressed<'_>, net: &Network<'_>) -> usize
     requires l_in_bounds { nvar_of net.now.layout + 1 ≤ length lists.old.starts.now }
     requires roomy { Roomy net.now.layout net.now.bytes.now lists.old.values.now }

@@ -2,7 +2,7 @@
 use Rattle.std.proofs.lemmas.List.Edits.{sets, sets-eq}
 use Rattle.std.specs.Float.{nan}
 use Rattle.std.proofs.Common.{ℕ, zero, suc, ◌+◌, ◌*◌, ◌≤◌, ◌<◌, ◌≡◌, refl, sym, ap, ◌∙◌, List, [], ◌∷◌, ◌++◌, arith, length, length-set, set, get_or}
-use Rattle.std.proofs.Common.{take, drop, length-append, get_or-set_other}
+use Rattle.std.proofs.Common.{take, drop, length-append}
 use Rattle.std.proofs.Common.{get_or-take, get_or-drop, get_or-append-add, length-take-le, Float}
 use lib.ListN.{get_or-append}
 use lib.Seq.{length-sets}
@@ -30,10 +30,6 @@ module _ {A : Type 0} where
       let b : get_or (take x l ++ xs) (length (take x l) + p) d ≡ get_or xs p d = get_or-append-add (take x l) xs p d in
       let q : get_or (take x l ++ xs) (x + p) d ≡ get_or xs p d = rw e at b in
       ap (λ (r : List A). get_or r (x + p) d) s ∙ get_or-append (take x l ++ xs) (drop (x + length xs) l) d (x + p) (omega (arith, e, length-append (take x l) xs)) ∙ q
-
-  behind : (xs l : List A) (at p : ℕ) (d : A) → at + length xs ≤ p → get_or (sets l at xs) p d ≡ get_or l p d
-  behind [] l at p d h = refl
-  behind (x ∷ xs) l at p d h = behind xs (set l at x) (suc at) p d (omega arith) ∙ get_or-set_other l at p x d (λ e. omega (arith, e))
 
 -- ---- four a branch
 

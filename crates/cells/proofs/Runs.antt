@@ -1,7 +1,7 @@
 -- Runs written over a list. A run that has g's values leaves a place alone or puts g's value there; so where every place below n has g's value or is in
 -- some run, the front becomes g's list, in whatever order the runs are written. Assumes nothing.
 use Rattle.std.proofs.lemmas.List.Edits.{sets, sets-eq}
-use Rattle.std.proofs.Common.{ℕ, zero, suc, ◌+◌, ◌-◌, ◌≤◌, ◌<◌, ◌≡◌, refl, sym, ap, ◌∙◌, ◌⊎◌, inl, inr, ⊎_elim, List, [], ◌∷◌, ◌++◌, arith, length, get_or, take, drop, set, length-append}
+use Rattle.std.proofs.Common.{ℕ, suc, ◌+◌, ◌-◌, ◌≤◌, ◌<◌, ◌≡◌, refl, sym, ap, ◌∙◌, ◌⊎◌, inl, inr, ⊎_elim, List, [], ◌∷◌, ◌++◌, arith, length, get_or, take, drop, set, length-append}
 use Rattle.std.proofs.Common.{length-take-le, get_or-append-add, get_or-set_other, ext_get_or, Float}
 use native.Mathlib.Decide.{dec_lt}
 use lib.ListN.{get_or-append}
@@ -47,11 +47,19 @@ sets_inside xs l p i d room h =
     let e : p + i ≡ length (take p l) + i = omega arith in
     rw (sets-eq xs l p room, e) (get_or-append (take p l ++ xs) (drop (p + length xs) l) d (length (take p l) + i) inside ∙ get_or-append-add (take p l) xs i d)
 
+-- r is one of the runs; `search among` finds it in a list, whichever stand beside it
+pub data Among (r : Run) : List Run → Type 0 where
+  this : {rs : List Run} → Among r (r ∷ rs)
+  later : {s : Run} {rs : List Run} → Among r rs → Among r (s ∷ rs)
+
+pub ruleset among = (this, later)
+
 -- place i is in one of the runs
 pub record Covered (i : ℕ) (rs : List Run) : Type 0 where
-  pub which : ℕ
-  pub from : (get_or rs which (run 0 [])).first ≤ i
-  pub to : i < (get_or rs which (run 0 [])).first + length (get_or rs which (run 0 [])).values
+  pub which : Run
+  pub there : Among which rs
+  pub from : which.first ≤ i
+  pub to : i < which.first + length which.values
 
 -- ---- runs of g's values, all below n
 module _ (g : ℕ → Float) (n : ℕ) where
@@ -86,14 +94,14 @@ module _ (g : ℕ → Float) (n : ℕ) where
         let next : List Float = sets l r.first r.values in
         kept w next i (omega (arith, length-sets l r.first r.values)) (rw e (step_kept l r.first c i (omega arith) h))
 
-    hit : {rs : List Run} → Windows rs → (l : List Float) (i j : ℕ) → n ≤ length l → (get_or rs j (run 0 [])).first ≤ i
-        → i < (get_or rs j (run 0 [])).first + length (get_or rs j (run 0 [])).values → get_or (with_runs rs l) i d ≡ g i
-    hit none l i j room a b = absurd (omega arith)
-    hit (more {r} c e b w) l i zero room a o =
+    hit : {r : Run} {rs : List Run} → Windows rs → Among r rs → (l : List Float) (i : ℕ) → n ≤ length l → r.first ≤ i → i < r.first + length r.values
+        → get_or (with_runs rs l) i d ≡ g i
+    hit none t l i room a o = elim t [ ]
+    hit (more {r} c e b w) this l i room a o =
         let long = listed-length (λ j. g (r.first + j)) c in
         let m : i < r.first + c = omega (arith, ap length e) in
         kept w (sets l r.first r.values) i (omega (arith, length-sets l r.first r.values)) (rw e (window_inside l r.first c i (omega arith) a m))
-    hit (more {r} c e b w) l i (suc j) room a o = hit w (sets l r.first r.values) i j (omega (arith, length-sets l r.first r.values)) a o
+    hit (more {r} c e b w) (later t) l i room a o = hit w t (sets l r.first r.values) i (omega (arith, length-sets l r.first r.values)) a o
 
     past : {rs : List Run} → Windows rs → (l : List Float) (i : ℕ) → n ≤ i → get_or (with_runs rs l) i d ≡ get_or l i d
     past none l i h = refl
@@ -117,6 +125,6 @@ module _ (g : ℕ → Float) (n : ℕ) where
         let over : Overlaid (listed n g) o (overlay (listed n g) o) = record { room = fits; is = refl } in
         ext_get_or d l' (overlay (listed n g) o) (omega (arith, runs_length f, overlay-length (listed n g) o fits))
         (λ i b. rw f.is (elim (dec_lt i n) [
-          | yes a ↦ ⊎_elim (λ c. hit w l i c.which (omega arith) c.from c.to) (λ v. kept w l i (omega arith) v) (here i a) ∙ sym (front o i a)
+          | yes a ↦ ⊎_elim (λ c. hit w c.there l i (omega arith) c.from c.to) (λ v. kept w l i (omega arith) v) (here i a) ∙ sym (front o i a)
           | no a ↦ past w l i (omega arith) ∙ behind i (omega arith) ∙ sym (past-written over i d (omega arith))
         ]))

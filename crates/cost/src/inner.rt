@@ -40,7 +40,7 @@ fn evaluate(segments: Records<'_>, x: f64) -> f64
     ensures { result ≡ highest (λ t. slope_of segments.entry.bytes.now (segments.entry.first + t)) (λ t. intercept_of segments.entry.bytes.now (segments.entry.first + t)) segments.entry.count x }
 {
     let mut best = -1.0 / 0.0;
-    // Kept: by index, as `Records` gives them.
+    // Kept: by index: a run of records has no iterator (the reason is at `Records`).
     for t in 0..segments.count {
         let r = segments.record(t);
         best = max(best, line(r.slope(), r.intercept(), x));

@@ -6,12 +6,12 @@ ghost use Rattle.rows.specs.Program.{equalities, inequalities, second_order, eve
 ghost use Rattle.kkt.specs.Kkt.{plain_row, kkt};
 ghost use Rattle.dealing.specs.Ahead.{PutsAhead, PutsFinished};
 ghost use Rattle.complementarity.specs.Writes.{row_entries, cone_in};
-ghost use Rattle.entries.specs.Parts.{first_bounds, stationarity};
+ghost use Rattle.entries.specs.Parts.{stationarity};
 ghost use Rattle.numbering.specs.Network.{grid};
 
 use balance::inner::sorted::balance_rows;
 use blocks::BoundKind;
-use blocks::inner::bounded::bound_rows;
+use blocks::inner::bounded::kinds_rows;
 use blocks::inner::cones::{jabr_rows, thermal_rows};
 use blocks::inner::diagonal::put_quadratic;
 use blocks::inner::ohm::ohm_rows;
@@ -34,26 +34,26 @@ fn equality_rows(list: &mut Triplets<'_>, net: &Network<'_>)
     ohm_rows(list, net, OhmRow::Qt);
 }
 
-fn first_bounds(list: &mut Triplets<'_>, p: &Point<'_>, d: bool)
-    requires { list.old.at + length (first_bounds (grid p.now.net) (row_entries (grid p.now.net) p.now.x.now p.now.z.now d)) < 2 ^ 64 }
-    ensures { Puts (first_bounds (grid p.now.net) (row_entries (grid p.now.net) p.now.x.now p.now.z.now d)) list.old list.new }
-{
-    bound_rows(list, p, d, BoundKind::Wub);
-    bound_rows(list, p, d, BoundKind::Wlb);
-    bound_rows(list, p, d, BoundKind::Pgub);
-    bound_rows(list, p, d, BoundKind::Pglb);
-}
-
 // The rows of the nonnegative cone, or the same rows as they are.
 fn inequality_rows(list: &mut Triplets<'_>, p: &Point<'_>, d: bool)
     requires { list.old.at + length (inequalities (grid p.now.net) (row_entries (grid p.now.net) p.now.x.now p.now.z.now d)) < 2 ^ 64 }
     ensures { Puts (inequalities (grid p.now.net) (row_entries (grid p.now.net) p.now.x.now p.now.z.now d)) list.old list.new }
 {
-    first_bounds(list, p, d);
-    bound_rows(list, p, d, BoundKind::Qgub);
-    bound_rows(list, p, d, BoundKind::Qglb);
-    bound_rows(list, p, d, BoundKind::Angub);
-    bound_rows(list, p, d, BoundKind::Anglb);
+    kinds_rows(
+        list,
+        p,
+        d,
+        &[
+            BoundKind::Wub,
+            BoundKind::Wlb,
+            BoundKind::Pgub,
+            BoundKind::Pglb,
+            BoundKind::Qgub,
+            BoundKind::Qglb,
+            BoundKind::Angub,
+            BoundKind::Anglb,
+        ],
+    );
     segment_rows(list, p, d);
 }
 

@@ -24,12 +24,6 @@ module _ (b : List ℕ) (kind : ℕ) where
   abbrev pub Passed : ℕ → ℕ → ℕ → Type 0
   Passed first count run = run_of b kind first count ≡ run + run_of b kind (first + run) (count - run)
 
-  pub passed_none : (first count : ℕ) → Passed first count 0
-  passed_none first count =
-      let e : first + 0 ≡ first = omega arith in
-      let d : count - 0 ≡ count = omega arith in
-      rw (e, d) (omega arith)
-
   pub passed-more : (first count run : ℕ) → run < count → Passed first count run → kind_of b (first + run) ≡ kind → Passed first count (run + 1)
   passed-more first count run h p e =
       let d : first + (run + 1) ≡ first + run + 1 = omega arith in

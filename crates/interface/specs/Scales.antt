@@ -1,15 +1,12 @@
 -- `served_unit_scale` of sens/interface.rs: operand scale divided by parameter scale, each a fixed tree of rounded operations.
 use Rattle.std.specs.Prelude.{Float}
 use Rattle.std.specs.Float.{binary64}
-use Rattle.std.specs.Float.Ieee.{of_bits, div}
+use Rattle.std.specs.Float.Ieee.{div}
+use Rattle.ring.specs.Ops.{one64}
 use Rattle.interface.specs.declared.Operand.{Operand}
 use Rattle.interface.specs.declared.Operand.TheVariants.{Price, Dispatch, Flow, Voltage}
 use Rattle.interface.specs.declared.Parameter.{Parameter}
 use Rattle.interface.specs.declared.Parameter.TheVariants.{Demand, Cost, LineLimit, SeriesAdmittance, ShuntAdmittance, VoltageBound, GenBound, Transformer, Switching, ConstraintLimit}
-
--- 1.0
-abbrev pub one64 : Float
-one64 = of_bits binary64 0x3ff0000000000000
 
 -- `operand_served_scale`
 abbrev pub operand_scale : Operand → Float → Float

@@ -1,12 +1,10 @@
 -- `Selector::new` of sens/interface.rs as lists: item o is the rows and weights from starts o up to starts (o + 1).
 use Rattle.std.specs.Prelude.{ℕ, ◌+◌, ◌&&◌, List, eqb, leb, length, replicate, Float, Result, Ok, Err}
-use Rattle.std.specs.Float.{binary64}
-use Rattle.std.specs.Float.Ieee.{of_bits}
 use Rattle.lists.specs.UpTo.{listed}
 use Rattle.refusals.specs.declared.Refusal.{Refusal}
 use Rattle.refusals.specs.declared.Refusal.TheVariants.{BadLists}
 use Rattle.refusals.specs.Refusals.{◌or_else◌, refuse_unless, room_for, Checked, answer_value}
-use Rattle.interface.specs.Scales.{one64}
+use Rattle.ring.specs.Ops.{zero64, one64}
 use Rattle.interface.specs.declared.Items.{Items}
 
 -- "one row of weight 1.0 for each item": the starts are 0, 1, .., items
@@ -37,4 +35,4 @@ selected_value r = answer_value (λ i. i.count) r
 
 abbrev pub selected_sign : Result Items Refusal → Float
 selected_sign (Ok i) = i.sign
-selected_sign (Err cause) = of_bits binary64 0
+selected_sign (Err cause) = zero64

@@ -91,6 +91,7 @@ pub fn axis_at(code: u64) -> Option<Axis>
     }
 }
 
+// Kept: alike others by chance: a match on a code, as each of these.
 pub fn mode_at(code: u64) -> Option<Mode>
     ensures { result ≡ mode_at code }
 {

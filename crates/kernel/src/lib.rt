@@ -1,5 +1,6 @@
 // The entries for callers in C, one module for each part of the header include/socwr.h. They only pass on what the libraries answer.
 // Kept: structs of a number and a value (Answer, Scalar, Sizes, Name, Selector), no Result: the C interface fixes their fields.
+// Kept: entries of one shape (here, in programs, readings, sens) are alike: each has its name and promise in C, and is one call; joined, the call would be a parameter.
 // Kept: a `From` for each kind of answer here and in sens, one match each: each holds something else, said by its own record in specs.
 #![tactic(auto)]
 

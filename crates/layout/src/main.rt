@@ -8,7 +8,7 @@ use refusals::{Refusal, number_of, value_of};
 use std::io;
 
 // The blocks of rows in their order.
-const BLOCKS: [&str; 17] = [
+const BLOCKS: [&str; ROW_BLOCKS] = [
     "pbal", "qbal", "ohm_pf", "ohm_qf", "ohm_pt", "ohm_qt", "wub", "wlb", "pgub", "pglb", "qgub",
     "qglb", "angub", "anglb", "cost", "jabr", "thermal",
 ];
@@ -38,7 +38,7 @@ fn rows(rt: &impl Print, l: SocWrLayout) -> io::Result<()> {
 }
 
 fn main(rt: HostRuntime) -> io::Result<()> {
-    // Kept: the buffer is of fixed length, one byte more than is taken, since the project has no heap.
+    // Kept: the buffer is of fixed length, one byte more than is taken, so that input of any length is refused in fixed memory; a Vec would grow with it.
     let mut buffer = [0u8; 65537];
     let n = read_full(&mut rt.stdin(), &mut buffer)?;
     match input::layout_of(&buffer[..n]) {

@@ -1,12 +1,11 @@
 -- Laws of `Puts`. Assumes nothing.
-use Rattle.std.proofs.Common.{ℕ, ◌+◌, ◌<◌, ◌≡◌, refl, sym, ap, ◌∙◌, List, [], ◌∷◌, ◌++◌, length, map, set, arith}
+use Rattle.std.proofs.Common.{ℕ, ◌+◌, ◌<◌, ◌≡◌, refl, ◌∙◌, List, [], ◌++◌, length, arith}
 use Rattle.lists.specs.UpTo.{up_to, each}
-use Rattle.lists.specs.Entries.{Entry, turned}
-use Rattle.lists.specs.Out.{Out, out, write}
+use Rattle.lists.specs.Entries.{Entry}
 use Rattle.lists.proofs.Each.{each_more, each_next}
 use Rattle.lists.proofs.Written as written
 use Rattle.lists.specs.declared.Triplets.{Triplets}
-use Rattle.lists.specs.Puts.{out_of, exchanged, Puts}
+use Rattle.lists.specs.Puts.{Puts}
 
 pub none : {t : Triplets} → Puts [] t t
 none = record { rows = refl; cols = refl; vals = refl; wrote = written.wrote_none }
@@ -29,14 +28,3 @@ pub room : {t t' : Triplets} {b : ℕ} (f : ℕ → List Entry) (j n : ℕ) → 
 room f j n p d h = omega (arith, pos p, each_next f j n d)
 
 -- ---- rows and columns in each other's place
-abbrev flip : Out → Out
-flip (out rs cs vs at) = out cs rs vs at
-
-flip-write : (es : List Entry) (o : Out) → write (map turned es) (flip o) ≡ flip (write es o)
-unfolding write
-flip-write [] o = refl
-flip-write (e ∷ es) (out rs cs vs at) = flip-write es (out (set rs at e.row) (set cs at e.col) (set vs at e.val) (at + 1))
-
-pub turned-back : {es : List Entry} {t t' : Triplets} → Puts es (exchanged t) t' → Puts (map turned es) t (exchanged t')
-turned-back {es} {t} p =
-    record { rows = p.cols; cols = p.rows; vals = p.vals; wrote = record { is = ap flip p.wrote.is ∙ sym (flip-write es (out_of (exchanged t))) } }

@@ -9,7 +9,6 @@ use native.Mathlib.Decide.{dec_lt}
 use lib.Seq.{drop-length}
 use Rattle.lists.specs.UpTo.{up_to, each, when, bit, count}
 use Rattle.lists.specs.Entries.{Every, none, also}
-use Rattle.lists.proofs.Ascending.{every_append as append-every}
 use Rattle.numbering.specs.Numbering.{added}
 use Rattle.manual.specs.Clarabel.{Cone, second_order, rows_of, InNorm, InKind, InProduct}
 
@@ -26,8 +25,12 @@ next P n = (
 -- ---- every element of a list
 module _ (P : ℤ → Type 0) where
   pub every_append : (xs ys : List ℤ) → Every P (xs ++ ys) ↔ (Every P xs × Every P ys)
-  every_append xs ys = (first xs, (λ p. append-every p.0 p.1))
+  every_append xs ys = (first xs, (λ p. both p.0 p.1))
     where
+      both : {xs : List ℤ} → Every P xs → Every P ys → Every P (xs ++ ys)
+      both none q = q
+      both (also h p) q = also h (both p q)
+
       first : (xs : List ℤ) → Every P (xs ++ ys) → Every P xs × Every P ys
       first [] h = (none, h)
       first (x ∷ xs) (also p h) = let q = first xs h in (also p q.0, q.1)

@@ -1,9 +1,8 @@
 -- The names in a table by block have their blocks' keys. Assumes nothing.
-use Rattle.std.proofs.Common.{ℕ, zero, suc, ◌+◌, ◌<◌, ◌≡◌, refl, List, [], ◌∷◌, length, get_or, arith}
+use Rattle.std.proofs.Common.{ℕ, zero, suc, ◌+◌, ◌<◌, ◌≡◌, refl, List, [], ◌∷◌, length, get_or, take, arith}
 use Rattle.numbering.specs.Blocks.{key}
-use Rattle.numbering.specs.Numbering.{row_key, cost_rows, SameKey}
+use Rattle.numbering.specs.Numbering.{row_key, row_names, cost_rows, SameKey}
 use Rattle.numbering.specs.declared.RowName.{RowName}
-use Rattle.numbering.specs.declared.RowName.TheVariants.{Pbal, Qbal, OhmPf, OhmQf, OhmPt, OhmQt, Wub, Wlb, Pgub, Pglb, Qgub, Qglb, Angub, Anglb}
 
 -- from block b on, each name of record i has its block's key
 abbrev Keyed : ℕ → ℕ → List RowName → Type 0
@@ -19,11 +18,10 @@ keyed_at i b (x ∷ xs) k d (suc c) h =
 
 -- the names of the blocks of one row for each record
 abbrev rows : ℕ → List RowName
-rows i =
-    Pbal i ∷ Qbal i ∷ OhmPf i ∷ OhmQf i ∷ OhmPt i ∷ OhmQt i ∷ Wub i ∷ Wlb i ∷ Pgub i ∷ Pglb i ∷ Qgub i ∷ Qglb i ∷ Angub i ∷ Anglb i ∷ []
+rows i = take cost_rows (row_names i 0)
 
 pub rows_keyed : (i : ℕ) (d : RowName) (c : ℕ) → c < cost_rows → SameKey (row_key (get_or (rows i) c d)) (key c i 0)
 rows_keyed i d c h =
-    let all : Keyed i 0 (rows i) = (refl, (refl, (refl, (refl, (refl, (refl, (refl, (refl, (refl, (refl, (refl, (refl, (refl, (refl, tt)))))))))))))) in
+    let all : Keyed i 0 (rows i) = search in
     let e : c + 0 ≡ c = omega arith in
     rw (keyed_at i 0 (rows i) all d c h, e) (record { block = refl; item = refl; place = refl })

@@ -1,6 +1,6 @@
 // Names as keys of block, record and place, and back.
 // Kept: a block is a number in what follows, as in numbering::inner::blocks, and columns and rows have a function each, as in numbering::inner.
-// Kept: column_key and row_key are functions: `From` for Key would have to stand in numbering, whose types these are.
+// Kept: column_key and row_key are functions: `From` for Key must stand with its type, in numbering, and would prove there 27 matches that it never uses.
 ghost use Rattle.std.specs.Prelude.{◌<◌};
 ghost use Rattle.numbering.specs.Blocks.{key};
 ghost use Rattle.numbering.specs.Numbering.{column_key, row_key, cost_columns, cost_rows, SameKey};

@@ -58,11 +58,11 @@ plain-records bs c h b l = sym (ap records (plain_at bs c h b l))
 module _ (l : SocWrLayout) where
   pub plain-columns : Plain (layout_columns l) column_many
   unfolding layout_columns column_table
-  plain-columns = (refl, (refl, (refl, (refl, (refl, (refl, (refl, (refl, (refl, (refl, tt))))))))))
+  plain-columns = search
 
   pub plain_rows : Plain (layout_rows l) jabr_rows
   unfolding layout_rows row_table
-  plain_rows = (refl, (refl, (refl, (refl, (refl, (refl, (refl, (refl, (refl, (refl, (refl, (refl, (refl, (refl, (refl, tt)))))))))))))))
+  plain_rows = search
 
   -- the blocks of more rows to a record
   pub jabr-number : (e q : ℕ) → before (layout_rows l) jabr_rows + (4 * e + q) ≡ layout_row l (Jabr e q)

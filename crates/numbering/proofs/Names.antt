@@ -1,5 +1,5 @@
 -- At each point exactly one name stands, the one that is answered for it. Assumes nothing.
-use Rattle.std.proofs.Common.{ℕ, zero, suc, ◌+◌, ◌*◌, ◌<◌, ◌≤◌, ◌≡◌, refl, sym, ap, ◌∙◌, List, [], ◌∷◌, ◌++◌, arith, zero-add, add-zero, get_or, replicate}
+use Rattle.std.proofs.Common.{ℕ, zero, suc, ◌+◌, ◌*◌, ◌<◌, ◌≤◌, ◌≡◌, Bool, refl, sym, ap, ◌∙◌, List, [], ◌∷◌, ◌++◌, arith, zero-add, add-zero, get_or, replicate}
 use Rattle.lists.specs.UpTo.{bit, sum}
 use Rattle.lists.proofs.Sums.{bit_le}
 use Rattle.records.specs.AcNetwork.{AcNetwork}
@@ -36,6 +36,9 @@ only b i q w u h = let e : 0 ≡ q = omega arith in ap (key b i) e
 
 one : (b i q : ℕ) → q < 1 → key b i 0 ≡ key b i q
 one b i q h = only b i q 1 (omega arith) h
+
+one_or_none : (b i q : ℕ) (t : Bool) → q < 1 * bit t → key b i 0 ≡ key b i q
+one_or_none b i q t h = only b i q (1 * bit t) (omega (arith, bit_le t)) h
 
 -- two keys that are the same are equal
 pub same_key : {x y : Key} → SameKey x y → x ≡ y
@@ -86,37 +89,7 @@ added-replicate (suc n) w = omega (arith, added-replicate n w)
 module _ {A : Type 0} (G : AcNetwork A) where
   row_named : (i q : ℕ) → Named row_key i q (row_blocks G) (row_names i q) 0
   unfolding row_blocks row_table
-  row_named i q = (
-    one 0 i q,
-    (
-      one 1 i q,
-      (
-        one 2 i q,
-        (
-          one 3 i q,
-          (
-            one 4 i q,
-            (
-              one 5 i q,
-              (
-                one 6 i q,
-                (
-                  one 7 i q,
-                  (
-                    one 8 i q,
-                    (
-                      one 9 i q,
-                      (one 10 i q, (one 11 i q, (one 12 i q, (one 13 i q, (λ h. refl, (λ h. refl, (λ h. refl, tt))))))),
-                    ),
-                  ),
-                ),
-              ),
-            ),
-          ),
-        ),
-      ),
-    ),
-  )
+  row_named i q = search (one)
 
   pub row-key : (x : Key) → Valid (row_blocks G) x → row_key (row_of x) ≡ x
   row-key x v =
@@ -136,34 +109,7 @@ module _ {A : Type 0} (G : AcNetwork A) where
 
   column-named : (i q : ℕ) → Named column_key i q (column_blocks G) (column_names i) 0
   unfolding column_blocks column_table
-  column-named i q = (
-    one 0 i q,
-    (
-      one 1 i q,
-      (
-        one 2 i q,
-        (
-          one 3 i q,
-          (
-            one 4 i q,
-            (
-              one 5 i q,
-              (
-                one 6 i q,
-                (
-                  one 7 i q,
-                  (
-                    one 8 i q,
-                    (only 9 i q (1 * bit (G.piecewise i)) (omega (arith, bit_le (G.piecewise i))), tt),
-                  ),
-                ),
-              ),
-            ),
-          ),
-        ),
-      ),
-    ),
-  )
+  column-named i q = search (one, one_or_none)
 
   pub column-key : (x : Key) → Valid (column_blocks G) x → column_key (column_of x) ≡ x
   column-key x v =

@@ -43,11 +43,11 @@ module _ {A : Type 0} (G : AcNetwork A) where
 
   pub columns-plain : Plain (column_blocks G) cost_columns
   unfolding column_blocks column_table
-  columns-plain = (refl, (refl, (refl, (refl, (refl, (refl, (refl, (refl, (refl, tt)))))))))
+  columns-plain = search
 
   pub rows-plain : Plain (row_blocks G) cost_rows
   unfolding row_blocks row_table
-  rows-plain = (refl, (refl, (refl, (refl, (refl, (refl, (refl, (refl, (refl, (refl, (refl, (refl, (refl, (refl, tt))))))))))))))
+  rows-plain = search
 
   -- ---- the others
   pub cost-block : block_at (column_blocks G) cost_columns ≡ unlike G.k 1 (λ g. bit (G.piecewise g))

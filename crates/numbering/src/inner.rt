@@ -23,7 +23,7 @@ impl SocWrLayout {
         requires in_range { InRange self }
         requires block_le_column_many { block ≤ column_many }
         ensures value { result ≡ before (layout_columns self) block }
-        ensures upper_bound { result ≤ 1114112 }
+        ensures upper_bound { result ≤ 65536 * row_many }
     {
         let sizes = blocks::column_sizes(self);
         blocks::start_of(&sizes, block) as u32
@@ -33,7 +33,7 @@ impl SocWrLayout {
         requires in_range { InRange self }
         requires block_le_row_many { block ≤ row_many }
         ensures value { result ≡ before (layout_rows self) block }
-        ensures upper_bound { result ≤ 1114112 }
+        ensures upper_bound { result ≤ 65536 * row_many }
     {
         let sizes = blocks::row_sizes(self);
         blocks::start_of(&sizes, block) as u32

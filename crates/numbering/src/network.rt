@@ -1,5 +1,5 @@
 // An accepted network: its layout and its records.
-// Kept: an index's bound (e < m, i < n, g < k) is one clause of each function: a struct of network and index would be made at each turn of a loop.
+// Kept: an index's bound (e < m, i < n, g < k, i < bound_count of a kind) is one clause of each function: a struct of network and index would be made at each turn of a loop.
 ghost use Rattle.numbering.specs.Laid.{Laid};
 
 use crate::SocWrLayout;

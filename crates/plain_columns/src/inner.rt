@@ -17,6 +17,7 @@ use interface::{Bound, CostTerm, Power};
 use lists::inner::store;
 use numbering::SocWrLayout;
 
+// Kept: alike others by chance: a match on an enum, whose rows are its own.
 fn voltage_row(l: SocWrLayout, bound: Bound, i: usize) -> u32
     requires in_range { InRange l }
     requires i_lt_n { i < l.n }

@@ -25,7 +25,7 @@ use Rattle.lists.proofs.Listed.{listed-length}
 use Rattle.cells.proofs.Fills.{kept-length}
 use Rattle.cells.specs.Runs.{Run, run, RunsOver}
 use Rattle.quadratic.specs.Linear.{linear_cost}
-use Rattle.cells.proofs.Runs.{Windows, none, more, Covered, runs_front, sets_outside, window_inside}
+use Rattle.cells.proofs.Runs.{Windows, none, more, among, Covered, runs_front, sets_outside, window_inside}
 
 -- what q has at a cost column
 abbrev pub unit : Float
@@ -59,8 +59,14 @@ module _ (l : SocWrLayout) (bytes : List ℕ) (laid : Laid l bytes) where
           let on = several (G.piecewise g) 1 q (omega arith) in
           cost-at _ (CostOf g) (h, on.0) (omega (arith, on.1, layout-column l (CostOf 0), column-number G (CostOf g)))
 
+  abbrev pg_run : Run
+  pg_run = run (layout_column l (Pg 0)) (listed l.k (linear_cost l bytes))
+
+  abbrev cost_run : Run
+  cost_run = run (layout_column l (CostOf 0)) (listed l.cost_columns (λ j. unit))
+
   abbrev pub cost_runs : List Run
-  cost_runs = run (layout_column l (Pg 0)) (listed l.k (linear_cost l bytes)) ∷ run (layout_column l (CostOf 0)) (listed l.cost_columns (λ j. unit)) ∷ []
+  cost_runs = pg_run ∷ cost_run ∷ []
 
   windows : Windows cost (nvar G) cost_runs
   unfolding linear_cost
@@ -72,7 +78,7 @@ module _ (l : SocWrLayout) (bytes : List ℕ) (laid : Laid l bytes) where
       none)
 
   covered : (x : ColumnName) → HasColumn G x → Covered (column_number G x) cost_runs ⊎ (linear_at rounded G x ≡ zero64)
-  covered (Pg g) h = let long = listed-length (linear_cost l bytes) l.k in inl (record { which = 0; from = omega (arith, pg_follows l bytes g); to = omega (arith, pg_follows l bytes g) })
+  covered (Pg g) h = let long = listed-length (linear_cost l bytes) l.k in inl (record { which = pg_run; there = search among; from = omega (arith, pg_follows l bytes g); to = omega (arith, pg_follows l bytes g) })
   covered (Qg g) h = inr refl
   covered (W i) h = inr refl
   covered (Wr e) h = inr refl
@@ -88,7 +94,7 @@ module _ (l : SocWrLayout) (bytes : List ℕ) (laid : Laid l bytes) where
       let on = ap bit h.1 in
       let curves = curves_are l bytes laid in
       let long = listed-length (λ j. unit) l.cost_columns in
-      inl (record { which = 1; from = omega arith; to = omega arith })
+      inl (record { which = cost_run; there = search among; from = omega arith; to = omega arith })
 
   -- as many as the layout says
   pub linear-length : length (linear G) ≡ nvar_of l

@@ -1,7 +1,6 @@
 -- P as the code writes it.
 use Rattle.std.specs.Prelude.{ℕ, List, Float}
-use Rattle.std.specs.Float.{binary64}
-use Rattle.std.specs.Float.Ieee.{mul, ne}
+use Rattle.std.specs.Float.Ieee.{ne}
 use Rattle.lists.specs.UpTo.{bit, sum}
 use Rattle.lists.specs.Entries.{Cell}
 use Rattle.numbering.specs.declared.SocWrLayout.{SocWrLayout}
@@ -10,11 +9,12 @@ use Rattle.numbering.specs.Layout.{layout_column}
 use Rattle.numbering.specs.Laid.{net_of}
 use Rattle.ring.specs.Ops.{rounded}
 use Rattle.rows.specs.Rows.{zero64}
+use Rattle.rows.specs.Program.{curvature}
 use Rattle.matrix.specs.Columns.{nonzero_cell}
 
--- twice the quadratic cost of generator g
+-- P at pg g: twice its quadratic cost
 abbrev pub quad_value : SocWrLayout → List ℕ → ℕ → Float
-quad_value l bytes g = mul binary64 rounded.two ((net_of l bytes).cq g)
+quad_value l bytes g = curvature rounded (net_of l bytes) g
 
 -- the column of pg g
 unfoldable pub quad_cells : SocWrLayout → List ℕ → ℕ → List Cell

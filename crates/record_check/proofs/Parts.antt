@@ -1,19 +1,15 @@
 -- The record check part by part, the branches before branch e apart. Assumes nothing.
-use Rattle.std.proofs.Common.{ℕ, zero, suc, ◌+◌, ◌-◌, ◌≤◌, ◌≡◌, List, add-zero, add-suc, add_assoc, arith, min}
+use Rattle.std.proofs.Common.{ℕ, ◌+◌, ◌-◌, ◌≤◌, ◌≡◌, List, add_assoc, arith, min}
 use Rattle.std.specs.Ordering.{ord_min, nat_cmp}
 use Rattle.std.proofs.lemmas.Bool.Decides.{nat_tests}
-use Rattle.lists.specs.UpTo.{up_to, sum, bit}
+use Rattle.lists.specs.UpTo.{bit}
+use Rattle.lists.proofs.Sums.{sum-split}
 use Rattle.refusals.specs.Refusals.{◌or_else◌, answer_if}
 use Rattle.refusals.proofs.Laws.{or_else_assoc}
 use Rattle.records.specs.Fields.{limited_of}
 use Rattle.records.specs.Check.{bus_cause, branch_cause, gen_cause, segment_cause, first_cause, record_causes, sum_cause}
 use Rattle.records.proofs.Causes.{apart}
 use Rattle.record_check.specs.Counts.{limited_in}
-
-sum-split : (a c : ℕ) (f : ℕ → ℕ) → sum (a + c) f ≡ sum a f + sum c (λ i. f (a + i))
-unfolding up_to
-sum-split a zero f = rw (add-zero, add-zero)
-sum-split a (suc c) f = rw (add-suc, sum-split a c f) (add_assoc _ _ _)
 
 module _ (n m k s : ℕ) (b : List ℕ) (e : ℕ) (l : e ≤ m) where
   pub parts : {A : Type 0} (v : A)

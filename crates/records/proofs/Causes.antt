@@ -1,6 +1,6 @@
 -- The record check's definitions, one step more at a time, as its loops go, and kind by kind. Assumes nothing.
 use Rattle.std.proofs.Common.{ℕ, zero, suc, ◌+◌, ◌-◌, ◌≤◌, ◌<◌, ◌≡◌, refl, sym, ◌∙◌, List, add-zero, zero-add, add-suc, add_assoc}
-use Rattle.std.proofs.Common.{arith, leb-true, lt-ltb, le-ltb, Result, Ok, Err}
+use Rattle.std.proofs.Common.{arith, leb-true, lt-ltb, le-ltb, Ok, Err}
 use Rattle.lists.specs.UpTo.{up_to}
 use Rattle.lists.proofs.UpTo.{up_to-more, up_to-found, up_to-same}
 use Rattle.refusals.specs.Refusals.{Checked, passed, ◌or_else◌}
@@ -22,12 +22,6 @@ accepted-last : (a : Checked) → a or_else passed ≡ a
 unfolding ◌or_else◌
 accepted-last (Ok u) = refl
 accepted-last (Err cause) = refl
-
--- what follows an answer matters where that accepts
-pub or_else_where : {A : Type 0} (a : Checked) (c d : Result A Refusal) → (a ≡ passed → c ≡ d) → a or_else c ≡ a or_else d
-unfolding ◌or_else◌
-or_else_where (Ok u) c d h = h refl
-or_else_where (Err cause) c d h = refl
 
 pub sum_more : (b : List ℕ) (g i : ℕ) → count_sum b g (i + 1) ≡ count_sum b g i + count_of b (g + i)
 unfolding count_sum

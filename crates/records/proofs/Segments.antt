@@ -1,6 +1,6 @@
 -- Where the segments' records lie: those of a generator follow those of the generators before it, and all lie within the slice, since the
 -- counts of accepted records add up to S. Assumes nothing.
-use Rattle.std.proofs.Common.{ℕ, ◌+◌, ◌*◌, ◌≤◌, ◌<◌, ◌≡◌, List, arith, length}
+use Rattle.std.proofs.Common.{ℕ, ◌+◌, ◌≤◌, ◌<◌, ◌≡◌, List, arith}
 use Rattle.lists.proofs.Sums.{sum_mono, sum-next}
 use Rattle.records.specs.Fields.{segments_of}
 use Rattle.records.specs.Network.{segments_before, segment_record, Accepted}
@@ -17,7 +17,3 @@ module _ {n m k s : ℕ} {b : List ℕ} (a : Accepted n m k s b) where
 
   pub segments-fit : (g : ℕ) → g < k → segments_before n m b g + segments_of b (n + m + g) ≤ s
   segments-fit g h = omega (arith, segments-below (g + 1) (omega arith), sum-next g (λ i. segments_of b (n + m + i)))
-
-  pub segment-inside : (g t : ℕ) → g < k → t < segments_of b (n + m + g) → 128 * segment_record n m k b g t + 128 ≤ length b
-  unfolding segment_record
-  segment-inside g t h l = omega (arith, segments-fit g h, a.size)

@@ -48,10 +48,6 @@ pub held : (t : Bool) (cause : Refusal) → t ≡ true → refuse_unless t cause
 unfolding refuse_unless
 held t cause h = rw h
 
-pub failed : (t : Bool) (cause : Refusal) → t ≡ false → refuse_unless t cause ≡ Err cause
-unfolding refuse_unless
-failed t cause h = rw h
-
 pub has_room : (need there : ℕ) → room_for need there ≡ passed → need ≤ there
 has_room need there h = leb-true need there (test-held _ _ h)
 

@@ -4,7 +4,8 @@ use Rattle.std.specs.Float.{binary64}
 use Rattle.std.specs.Float.Ieee.{of_bits, ne, div}
 use Rattle.std.specs.Float.Ieee as Ieee
 use Rattle.lists.specs.UpTo.{each, when}
-use Rattle.ring.specs.Ops.{Ops, rounded}
+use Rattle.ring.specs.Ops.{Ops, rounded, one64}
+pub use Rattle.ring.specs.Ops.{zero64}
 use Rattle.records.specs.AcNetwork.{AcNetwork}
 use Rattle.rows.specs.Branch.{Branch, branch_at}
 use Rattle.rows.specs.declared.OhmRow.{OhmRow}
@@ -189,12 +190,9 @@ module _ {A : Type 0} (o : Ops A) (G : AcNetwork A) where
   under (Thermal e q) = o.one
 
 -- ---- as the code computes it: binary64, and a computed coefficient that equals zero is dropped
-abbrev pub zero64 : Float
-zero64 = rounded.zero
-
 abbrev pub constant64 : Constant → Float
-constant64 one = of_bits binary64 0x3ff0000000000000
-constant64 minus_one = Ieee.neg (of_bits binary64 0x3ff0000000000000)
+constant64 one = one64
+constant64 minus_one = Ieee.neg one64
 constant64 half = of_bits binary64 0x3fe0000000000000
 constant64 minus_half = Ieee.neg (of_bits binary64 0x3fe0000000000000)
 

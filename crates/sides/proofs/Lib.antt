@@ -1,3 +1,4 @@
+pub mod Ends
 pub mod Ratings
 pub mod RightSide
 pub mod Across

@@ -2,7 +2,7 @@
 -- row, by its name, is in its block's run. So no block's neighbours are spoken of. Assumes nothing.
 use Rattle.std.specs.Float.Ieee.{neg}
 use Rattle.std.proofs.Common.{ℕ, ◌+◌, ◌*◌, ◌/◌, ◌%◌, ◌≤◌, ◌<◌, ◌≡◌, refl, sym, ap, ◌∙◌, Bool, true, false, inl, List, [], ◌∷◌, ◌++◌, add_assoc, mod-lt}
-use Rattle.std.proofs.Common.{div-add-mod', arith, length, get_or, Float}
+use Rattle.std.proofs.Common.{div-add-mod', arith, length, Float}
 use Rattle.lists.specs.UpTo.{up_to, each, listed, overlay, when, bit, sum}
 use Rattle.lists.proofs.Each.{each_ext, each-sums}
 use Rattle.lists.proofs.Sums.{sum-mul, sum_room}
@@ -22,10 +22,10 @@ use Rattle.numbering.proofs.Laid.{limits_are, laid-ncon}
 use Rattle.rows.specs.Rows.{b, zero64}
 use Rattle.matrix.specs.Lists.{right_side}
 use Rattle.lists.proofs.Listed.{listed-length}
-use Rattle.cells.specs.Runs.{Run, run, RunsOver}
+use Rattle.cells.specs.Runs.{Run, RunsOver}
 use Rattle.sides.specs.Sides.{side_at, block_run, zero_run, rating_sides, ratings_at, ohm_runs, bus_runs, generator_runs, segment_run, jabr_run, thermal_run, branch_runs}
 use Rattle.sides.proofs.Ratings.{ratings_length}
-use Rattle.cells.proofs.Runs.{Windows, none, more, Covered, runs_front}
+use Rattle.cells.proofs.Runs.{Windows, none, more, Among, among, Covered, runs_front}
 
 module _ (l : SocWrLayout) (bytes : List ℕ) (laid : Laid l bytes) where
   abbrev G : AcNetwork Float
@@ -179,40 +179,40 @@ module _ (l : SocWrLayout) (bytes : List ℕ) (laid : Laid l bytes) where
       none))))))))))))))))
 
   -- in a block with one row for each record
-  in_block : {n : ℕ} {row : ℕ → RowName} (j : ℕ) {xs : List Float} → Placed n row → (i : ℕ) → i < n → get_or side_runs j (run 0 []) ≡ run (layout_row l (row 0)) xs → length xs ≡ n
-      → Covered (row_number G (row i)) side_runs
-  in_block j {xs} p i h e long = record { which = j; from = rw e (omega (arith, p.at i)); to = rw e (omega (arith, p.at i, long)) }
+  in_block : {n : ℕ} {row : ℕ → RowName} → Placed n row → (i : ℕ) → i < n → Among (block_run l bytes n row) side_runs → Covered (row_number G (row i)) side_runs
+  unfolding block_run
+  in_block {n} {row} p i h there =
+      let long = listed-length (side_at l bytes row) n in
+      record { which = block_run l bytes n row; there = there; from = omega (arith, p.at i); to = omega (arith, p.at i) }
 
-  covered : (x : RowName) → HasRow G x → Covered (row_number G x) side_runs
-  unfolding block_run zero_run segment_run thermal_run
-  covered (Pbal i) h = in_block 0 pbal i h refl (listed-length _ _)
-  covered (Qbal i) h = in_block 1 qbal i h refl (listed-length _ _)
-  covered (Wub i) h = in_block 2 wub i h refl (listed-length _ _)
-  covered (Wlb i) h = in_block 3 wlb i h refl (listed-length _ _)
-  covered (OhmPf e) h = in_block 4 ohm-pf e h refl (listed-length _ _)
-  covered (OhmQf e) h = in_block 5 ohm-qf e h refl (listed-length _ _)
-  covered (OhmPt e) h = in_block 6 ohm-pt e h refl (listed-length _ _)
-  covered (OhmQt e) h = in_block 7 ohm-qt e h refl (listed-length _ _)
-  covered (Pgub g) h = in_block 8 pgub g h refl (listed-length _ _)
-  covered (Pglb g) h = in_block 9 pglb g h refl (listed-length _ _)
-  covered (Qgub g) h = in_block 10 qgub g h refl (listed-length _ _)
-  covered (Qglb g) h = in_block 11 qglb g h refl (listed-length _ _)
-  covered (Segment g t) h =
+  in_zeros : {n : ℕ} {row : ℕ → RowName} → Placed n row → (i : ℕ) → i < n → Among (zero_run l n (row 0)) side_runs → Covered (row_number G (row i)) side_runs
+  unfolding zero_run
+  in_zeros {n} {row} p i h there =
+      let long = listed-length (λ j. zero64) n in
+      record { which = zero_run l n (row 0); there = there; from = omega (arith, p.at i); to = omega (arith, p.at i) }
+
+  in_segments : (g t : ℕ) → HasRow G (Segment g t) → Covered (row_number G (Segment g t)) side_runs
+  unfolding segment_run
+  in_segments g t h =
       let at = row_number_lem G (Segment g t) in
       let first = layout_row_lem l (Segment 0 0) in
       let own = sum_room g l.k G.segments h.0 in
       let all = laid.accepted.counts-add in
       let long = listed-length (λ r. neg (intercept_of bytes (l.n + l.m + l.k + r))) l.s in
-      record { which = 12; from = omega arith; to = omega arith }
-  covered (Jabr e q) h =
+      record { which = segment_run l bytes; there = search among depth 30; from = omega arith; to = omega arith }
+
+  in_jabr : (e q : ℕ) → HasRow G (Jabr e q) → Covered (row_number G (Jabr e q)) side_runs
+  unfolding zero_run
+  in_jabr e q h =
       let at = row_number_lem G (Jabr e q) in
       let first = layout_row_lem l (Jabr 0 0) in
       let all = laid.accepted.counts-add in
       let long = listed-length (λ j. zero64) (4 * l.m) in
-      record { which = 13; from = omega arith; to = omega arith }
-  covered (Angub e) h = in_block 14 angub e h refl (listed-length _ _)
-  covered (Anglb e) h = in_block 15 anglb e h refl (listed-length _ _)
-  covered (Thermal e q) h =
+      record { which = jabr_run l; there = search among depth 30; from = omega arith; to = omega arith }
+
+  in_thermal : (e q : ℕ) → HasRow G (Thermal e q) → Covered (row_number G (Thermal e q)) side_runs
+  unfolding thermal_run
+  in_thermal e q h =
       let at = row_number_lem G (Thermal e q) in
       let first = layout_row_lem l (Thermal 0 0) in
       let own = sum_room e l.m (λ i. bit (G.limited i)) h.0 in
@@ -220,7 +220,26 @@ module _ (l : SocWrLayout) (bytes : List ℕ) (laid : Laid l bytes) where
       let all = laid.accepted.counts-add in
       let limited = limits_are l bytes laid in
       let long = ratings_length l bytes laid in
-      record { which = 16; from = omega arith; to = omega arith }
+      record { which = thermal_run l bytes; there = search among depth 30; from = omega arith; to = omega arith }
+
+  covered : (x : RowName) → HasRow G x → Covered (row_number G x) side_runs
+  covered (Pbal i) h = in_block pbal i h (search among depth 30)
+  covered (Qbal i) h = in_block qbal i h (search among depth 30)
+  covered (OhmPf e) h = in_zeros ohm-pf e h (search among depth 30)
+  covered (OhmQf e) h = in_zeros ohm-qf e h (search among depth 30)
+  covered (OhmPt e) h = in_zeros ohm-pt e h (search among depth 30)
+  covered (OhmQt e) h = in_zeros ohm-qt e h (search among depth 30)
+  covered (Wub i) h = in_block wub i h (search among depth 30)
+  covered (Wlb i) h = in_block wlb i h (search among depth 30)
+  covered (Pgub g) h = in_block pgub g h (search among depth 30)
+  covered (Pglb g) h = in_block pglb g h (search among depth 30)
+  covered (Qgub g) h = in_block qgub g h (search among depth 30)
+  covered (Qglb g) h = in_block qglb g h (search among depth 30)
+  covered (Angub e) h = in_block angub e h (search among depth 30)
+  covered (Anglb e) h = in_block anglb e h (search among depth 30)
+  covered (Segment g t) h = in_segments g t h
+  covered (Jabr e q) h = in_jabr e q h
+  covered (Thermal e q) h = in_thermal e q h
 
   -- as many as the layout says
   pub right-length : length (right_side G) ≡ ncon_of l

@@ -114,6 +114,7 @@ fn fill_branches(out: &mut [f64], net: &Network<'_>)
 }
 
 // ohm_pf, ohm_qf, ohm_pt and ohm_qt: zeros.
+#[tactic(auto, using(crate::proofs::Ends::pf_ends, crate::proofs::Ends::qf_ends, crate::proofs::Ends::pt_ends, crate::proofs::Ends::qt_ends))]
 fn fill_ohms(out: &mut [f64], net: &Network<'_>)
     requires { ncon_of net.now.layout ≤ length out.old }
     ensures { RunsOver (ohm_runs net.now.layout) out.old out.new }
@@ -130,6 +131,7 @@ fn fill_ohms(out: &mut [f64], net: &Network<'_>)
 }
 
 // All of b, block by block, each from its first row on.
+#[tactic(auto, using(crate::proofs::Ends::segments_end, crate::proofs::Ends::jabr_ends))]
 pub fn fill_b(out: &mut [f64], net: &Network<'_>)
     requires { ncon_of net.now.layout ≤ length out.old }
     ensures { out.new ≡ overlay (right_side (grid net.now)) out.old }

@@ -1,13 +1,9 @@
 -- What lists of rows, columns, values and starts stand for, as document 01 has them.
 use Rattle.std.specs.Prelude.{ℕ, ◌+◌, ◌-◌, ◌≤◌, ◌<◌, List, length, get_or, Float}
-use Rattle.std.specs.Float.{binary64, nan}
-use Rattle.std.specs.Float.Ieee.{of_bits}
+use Rattle.std.specs.Float.{nan}
+pub use Rattle.ring.specs.Ops.{zero64}
 use Rattle.lists.specs.UpTo.{listed}
 use Rattle.lists.specs.Entries.{Entry, entry, Cell, cell}
-
--- 0.0
-abbrev pub zero64 : Float
-zero64 = of_bits binary64 0
 
 -- the entries that lists of rows, columns and values hold
 unfoldable pub entries : List ℕ → List ℕ → List Float → List Entry

@@ -81,6 +81,7 @@ impl Call {
 }
 
 impl NetworkEntry {
+    // Kept: one match on an enum, an arm for each entry: no table and no flag, which a closure or dyn could take the place of.
     fn answer(self, network: &Network, x: &[f64], z: &[f64], out: &mut Writes) -> Answered {
         let Counts { n, m, k, s } = network.counts;
         let records = &network.records;

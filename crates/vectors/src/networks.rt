@@ -88,6 +88,7 @@ impl Question {
         })
     }
 
+    // Kept: one match on an enum, an arm for each entry: no table and no flag, which a closure or dyn could take the place of.
     fn answer(self, network: &Network) -> Results {
         let Counts { n, m, k, s } = network.counts;
         let records = &network.records;

@@ -1,12 +1,9 @@
--- Laws of a pass: none, one cell, two passes joined. Assumes nothing.
+-- Laws of a pass: one cell, two passes joined. Assumes nothing.
 use Rattle.std.proofs.Common.{ℕ, ◌<◌, ◌≡◌, refl, sym, ap, ◌∙◌, ◌⊎◌, inl, inr, ⊎_elim, List, length, get_or, set, length-set, get_or-set_same, get_or-set_other, Float}
 use Rattle.std.specs.Float.{nan}
 use Rattle.weighing.specs.Passes.{Passed}
 
 module _ {pos : ℕ → ℕ → ℕ} {f : ℕ → ℕ → Float → Float} where
-  pub passed_none : {P : ℕ → ℕ → Type 0} {m : List Float} → ((d s : ℕ) → P d s → ⊥) → Passed pos P f m m
-  passed_none h = record { long = refl; done = λ d s p. absurd (h d s p); kept = λ i k. refl }
-
   -- one cell
   pub passed-one : {m : List Float} (d s : ℕ) (v : Float) → pos d s < length m → v ≡ f d s (get_or m (pos d s) nan)
       → Passed pos (λ d' s'. (d' ≡ d) × (s' ≡ s)) f m (set m (pos d s) v)

@@ -4,6 +4,7 @@ ghost use Rattle.lists.specs.UpTo.{each};
 ghost use Rattle.lists.specs.Puts.{Puts};
 ghost use Rattle.complementarity.specs.Writes.{row_entries};
 ghost use Rattle.bounds.specs.Kinds.{bound_name, bound_count};
+ghost use Rattle.blocks.specs.Kinds.{kinds_rows};
 ghost use Rattle.numbering.specs.Network.{grid};
 
 use crate::BoundKind;
@@ -41,5 +42,15 @@ pub fn bound_rows(list: &mut Triplets<'_>, p: &Point<'_>, d: bool, kind: BoundKi
     let n = count_of(p.net.layout, kind);
     for i in 0..n {
         bound_row(list, p, d, kind, i);
+    }
+}
+
+// The rows of several kinds, one kind after the other.
+pub fn kinds_rows(list: &mut Triplets<'_>, p: &Point<'_>, d: bool, kinds: &[BoundKind])
+    requires { list.old.at + length (kinds_rows p.now.net.layout (row_entries (grid p.now.net) p.now.x.now p.now.z.now d) kinds.now) < 2 ^ 64 }
+    ensures { Puts (kinds_rows p.now.net.layout (row_entries (grid p.now.net) p.now.x.now p.now.z.now d) kinds.now) list.old list.new }
+{
+    for kind in kinds {
+        bound_rows(list, p, d, *kind);
     }
 }

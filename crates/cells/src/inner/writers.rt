@@ -20,7 +20,7 @@ impl<'a> Cells<'a> {
     }
 
     // A cell, where the test holds.
-    // Kept: three structs have a `put` or `deal` each, and beside it this test of it (`Triplets`, `Buckets`, `Cells`).
+    // Kept: `Triplets`, `Buckets` and `Cells` each have this test of their own `put` or `deal`; a trait over them would state the three promises again.
     pub fn put_if(&mut self, hit: bool, r: u32, v: f64)
         requires { self.old.at + 1 < 2 ^ 64 }
         ensures puts { PutsCells (when hit (one_cell r v)) self.old self.new }

@@ -22,6 +22,7 @@ use refusals::{Refusal, refuse_unless, room_for};
 use solution::inner::solution_cause;
 
 // The stores of a column; before branch i there are so many limited ones.
+// Kept: one match on an enum, an arm for each parameter: no table and no flag, which a closure or dyn could take the place of.
 #[tactic(auto, unfolding(crate::specs::Jacobian::stores, admittance::specs::Stores::stored_all))]
 fn write(
     net: &Network<'_>,

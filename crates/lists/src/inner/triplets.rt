@@ -21,6 +21,7 @@ impl<'a> Triplets<'a> {
     }
 
     // One entry where the test holds.
+    // Kept: `Cells` and `Buckets` have the like, each over its own list and promise; a trait over them would state the three promises again.
     pub fn put_if(&mut self, hit: bool, r: u32, c: u32, v: f64)
         requires { self.old.at + length (when hit (entry r c v ∷ [])) < 2 ^ 64 }
         ensures { Puts (when hit (entry r c v ∷ [])) self.old self.new }

@@ -1,5 +1,6 @@
 // The blocks by number and length, where a block starts, and the block of a point.
 ghost use Rattle.std.specs.Prelude.{◌≡◌, ℕ, ◌+◌, ◌*◌, ◌≤◌, ◌<◌, length, get_or};
+ghost use Rattle.numbering.specs.Numbering.{row_many};
 ghost use Rattle.numbering.specs.Layout.{InRange, layout_columns, layout_rows, sizes_of, start_in, InBlock};
 
 use crate::{Place, SocWrLayout};
@@ -69,9 +70,9 @@ pub const JABR_ROWS: usize = 4;
 
 pub const THERMAL_ROWS: usize = 6;
 
-pub type ColumnSizes = [usize; 10];
+pub type ColumnSizes = [usize; COLUMN_BLOCKS];
 
-pub type RowSizes = [usize; 17];
+pub type RowSizes = [usize; ROW_BLOCKS];
 
 pub fn column_sizes(l: SocWrLayout) -> ColumnSizes
     ensures { result ≡ sizes_of (layout_columns l) }
@@ -79,6 +80,7 @@ pub fn column_sizes(l: SocWrLayout) -> ColumnSizes
     [l.k, l.k, l.n, l.m, l.m, l.m, l.m, l.m, l.m, l.cost_columns]
 }
 
+// Kept: a layout in range is asked alone, as at the layout's methods: there are no records here.
 pub fn row_sizes(l: SocWrLayout) -> RowSizes
     requires { InRange l }
     ensures { result ≡ sizes_of (layout_rows l) }
@@ -106,10 +108,10 @@ pub fn row_sizes(l: SocWrLayout) -> RowSizes
 
 // Where a block starts, given the blocks' lengths.
 pub fn start_of(sizes: &[usize], block: usize) -> usize
-    requires block_in_bounds { (block ≤ length sizes.now) × (length sizes.now ≤ 17) }
+    requires block_in_bounds { (block ≤ length sizes.now) × (length sizes.now ≤ row_many) }
     requires by_index { (j : ℕ) → get_or sizes.now j 0 ≤ 65536 }
     ensures value { result ≡ start_in sizes.now block }
-    ensures upper_bound { result ≤ 1114112 }
+    ensures upper_bound { result ≤ 65536 * row_many }
 {
     let mut start = 0;
     for size in &sizes[..block] {

@@ -55,6 +55,7 @@ fn voltage_first(net: &Network<'_>, kind: VoltageKind) -> u32
 }
 
 // The row of the first item; where there is none, of the place where it would stand.
+// Kept: one match on an enum, an arm for each operand: no table and no flag, which a closure or dyn could take the place of.
 fn first_row(net: &Network<'_>, o: Operand) -> u32
     ensures { result ≡ selector_row (grid net.now) o 0 }
 {

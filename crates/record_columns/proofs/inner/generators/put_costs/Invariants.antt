@@ -12,8 +12,8 @@ invariant-loop-g l =
     let turn = cost_turn (grid l.net) in
     record {
       base_row : l.base ≡ layout_row l.net.layout (Segment 0 0);
-      base_bound : l.base ≤ 294912;
-      first_bound : l.initial.c ≤ 294912;
+      base_bound : l.base ≤ 900000;
+      first_bound : l.initial.c ≤ 900000;
       segments : l.seg ≡ sum l.g (grid l.net).segments;
       bound : l.cells.at ≤ l.initial.cells.at + l.seg;
       column : l.c ≡ l.initial.c + length (each l.g turn);

@@ -8,7 +8,7 @@ use Rattle.record_columns.proofs.inner.generators.put_pgs.Given as goal
 abbrev pub invariant-loop-g : goal.invariant-loop-g
 invariant-loop-g l =
     record {
-      col_bound : l.col ≤ 294912;
+      col_bound : l.col ≤ 900000;
       segments : l.seg ≡ sum l.g (grid l.net).segments;
       bound : l.cells.at ≤ l.initial.cells.at + 3 * l.g + l.seg;
       written : PutsColumns (listed l.g (pg_cells (grid l.net))) l.col l.initial.starts l.initial.cells l.starts l.cells;
