@@ -1,15 +1,9 @@
 -- Lengths. Assumes nothing.
 use Rattle.std.specs.Float.Ieee.{ne}
 use Rattle.std.proofs.Common.{ℕ, ◌≡◌, refl, Bool, true, false, [], ◌∷◌, length, Float}
-use mir.Val.{bool_byte}
 use Rattle.lists.specs.UpTo.{when, bit}
 use Rattle.rows.specs.Rows.{zero64}
 use Rattle.matrix.specs.Columns.{one_cell, nonzero_cell}
-
--- what `usize::from` makes of a test
-pub as_bit : (b : Bool) → bool_byte b ≡ bit b
-as_bit true = refl
-as_bit false = refl
 
 pub when-length : {A : Type 0} (b : Bool) (x : A) → length (when b (x ∷ [])) ≡ bit b
 when-length true x = refl

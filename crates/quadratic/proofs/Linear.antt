@@ -78,7 +78,10 @@ module _ (l : SocWrLayout) (bytes : List ℕ) (laid : Laid l bytes) where
       none)
 
   covered : (x : ColumnName) → HasColumn G x → Covered (column_number G x) cost_runs ⊎ (linear_at rounded G x ≡ zero64)
-  covered (Pg g) h = let long = listed-length (linear_cost l bytes) l.k in inl (record { which = pg_run; there = search among; from = omega (arith, pg_follows l bytes g); to = omega (arith, pg_follows l bytes g) })
+  covered (Pg g) h =
+      let long = listed-length (linear_cost l bytes) l.k in
+      let at = pg_follows l bytes g in
+      inl (record { which = pg_run; there = search among; from = omega (arith, at); to = omega (arith, at) })
   covered (Qg g) h = inr refl
   covered (W i) h = inr refl
   covered (Wr e) h = inr refl

@@ -2,7 +2,7 @@ use Rattle.std.proofs.Common.{◌≡◌, refl, ap, ◌∙◌, arith}
 use Rattle.lists.specs.UpTo.{up_to, bit}
 use Rattle.lists.proofs.Sums.{sum-next, bit_le}
 use Rattle.numbering.specs.Network.{grid}
-use Rattle.cells.proofs.Sizes.{as_bit}
+use Rattle.lists.proofs.Tests.{as_bit}
 use Rattle.cells.proofs.Puts.{columns-none, column}
 use Rattle.record_columns.proofs.inner.branches.put_flows.Goals as goal
 
