@@ -46,7 +46,7 @@ fn weigh_two(x: &[f64], base: usize, other: usize, segment: &Segment<'_>, start:
     Two { a, b }
 }
 
-// Kept: p, and below q, go on by a stride: found anew from s in each turn (tried) they cost 1 to 9 in 100 instructions more, and miss the times of docs/SPEED.md.
+// Kept: p, and below q, go on by a stride: found anew from s in each turn (tried, in the same loops in Rust) they cost 1 to 9 in 100 instructions more.
 // Dense column d.
 fn pass_one(out: &mut [f64], grid: &Grid, x: &Dense<'_>, d: usize, terms: &Terms<'_>)
     requires spread { Spread (grid.now.at + d * grid.now.dense) 0 grid.now.across 1 terms.now.segments (length out.old) }
