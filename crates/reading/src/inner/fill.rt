@@ -5,14 +5,13 @@ ghost use Rattle.std.specs.Float.Ieee.{neg};
 ghost use Rattle.lists.specs.UpTo.{listed, overlay};
 
 // One negating fill.
-// Kept: a copy and a loop over it: a loop over both lists at once would have to zip them, no plainer.
+// Kept: by index: a copy would call memmove, which the static library would ask of the outside, and over both lists at once they would have to be zipped.
 fn negate(z: &[f64], out: &mut [f64])
     requires { length out.old ≤ length z.now }
     ensures { out.new ≡ listed (length out.old) (λ i. neg (get_or z.now i nan)) }
 {
-    out.copy_from_slice(&z[..out.len()]);
-    for price in out.iter_mut() {
-        *price = -*price;
+    for i in 0..out.len() {
+        out[i] = -z[i];
     }
 }
 

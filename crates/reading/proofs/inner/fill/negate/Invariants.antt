@@ -1,4 +1,4 @@
--- The first places are negated, what is after them is z's.
+-- The first places are written.
 use Rattle.std.specs.Float.{nan}
 use Rattle.std.specs.Float.Ieee.{neg}
 use Rattle.std.proofs.Common.{get_or}
@@ -6,5 +6,5 @@ use Rattle.lists.specs.UpTo.{listed}
 use Rattle.lists.proofs.Overlay.{Overlaid}
 use Rattle.reading.proofs.inner.fill.negate.Given as goal
 
-abbrev pub invariant-loop-price : goal.invariant-loop-price
-invariant-loop-price l = Overlaid (listed l.price-index (λ i. neg (get_or l.z i nan))) l.initial.out l.out
+abbrev pub invariant-loop-i : goal.invariant-loop-i
+invariant-loop-i l = Overlaid (listed l.i (λ i. neg (get_or l.z i nan))) l.initial.out l.out
