@@ -1,6 +1,7 @@
 // Whether the lists of an entry fit together: number 12's causes.
-ghost use Rattle.std.specs.Prelude.{◌≡◌, ◌≤◌};
-ghost use Rattle.sparse.specs.Sparse.{items_of};
+ghost use Rattle.std.specs.Prelude.{◌≡◌, ◌&&◌, ◌+◌, ◌≤◌, ◌<◌, leb, length};
+ghost use Rattle.lists.specs.UpTo.{all};
+ghost use Rattle.sparse.specs.Sparse.{items_of, start_of};
 ghost use Rattle.sparse.specs.Checks.{most_dim, bounded as bounded_of, all_below, entries_fit, starts_fit, selector_fits};
 
 use crate::{Entries, Selector};
@@ -36,13 +37,44 @@ impl<'a> Entries<'a> {
     }
 }
 
+// Whether none of the starts from one on up to another is past the next. All are looked at, with no way out, so that the loop needs no branch.
+// Kept: by index: each start is read twice, after the one before it and before the one behind it.
+fn part_rises(starts: &[u32], first: usize, past: usize) -> bool
+    requires { (first ≤ past) × (past < length starts.now) }
+    ensures { all past (λ o. leb (start_of starts.now o) (start_of starts.now (o + 1))) ≡ (all first (λ o. leb (start_of starts.now o) (start_of starts.now (o + 1))) && result) }
+{
+    let mut ok = true;
+    for o in first..past {
+        ok = ok & (starts[o] <= starts[o + 1]);
+    }
+    ok
+}
+
+// Whether the starts of so many items rise, part by part: lists whose starts fall early are turned away early.
+// Kept: `is_sorted` looks at one after the other, and takes twice the time where all rise.
+fn rise(starts: &[u32], items: usize) -> bool
+    requires { items < length starts.now }
+    ensures { result ≡ all items (λ o. leb (start_of starts.now o) (start_of starts.now (o + 1))) }
+{
+    let mut first = 0;
+    // Kept: a part that falls ends the walk, and the last part is shorter.
+    while first < items {
+        let past = items.min(first + 1024);
+        if !part_rises(starts, first, past) {
+            return false;
+        }
+        first = past;
+    }
+    true
+}
+
 fn starts_fit(starts: &[u32], n: usize) -> bool
     ensures { result ≡ starts_fit starts.now n }
 {
     if let Some(last) = starts.last() {
         let a = starts[0] == 0;
         let b = *last as usize == n;
-        return a & b & starts.is_sorted();
+        return a & b & rise(starts, starts.len() - 1);
     }
     false
 }
