@@ -13,7 +13,6 @@ ghost use Rattle.elements.specs.Ids.{element_id, id_check};
 use inner::ids::{id_of, on_axis};
 use inner::lengths::{operand_length, parameter_length};
 use interface::{Axis, Operand, Parameter};
-use numbering::Network;
 use record_check::check_records;
 use records::Case;
 use refusals::{Refusal, refuse_unless};
@@ -57,12 +56,12 @@ pub fn operand_len(case: Case<'_>, operand: Operand) -> Result<u64, Refusal>
 pub fn element_id(case: Case<'_>, axis: Axis, index: usize) -> Result<ElementId, Refusal>
     ensures { result ≡ answer_if (id_check case.entry.n case.entry.m case.entry.k case.entry.s case.entry.bytes.now axis index) (element_id (case_network case.entry) axis index) }
 {
-    let net = Network::new(case)?;
+    check_records(case)?;
     refuse_unless(
         on_axis(case.n, case.m, case.k, axis, index),
         Refusal::PastEnd(index as u64),
     )?;
-    Ok(id_of(&net, axis, index))
+    Ok(id_of(case, axis, index))
 }
 
 // `unit_scale`: the factor from per unit to served units.

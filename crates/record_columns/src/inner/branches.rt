@@ -61,9 +61,8 @@ fn put_wi_angles(cells: &mut Cells<'_>, net: &Network<'_>, e: usize)
     ensures puts { PutsCells (wi_angles (grid net.now) e) cells.old cells.new }
     ensures upper_bound { cells.new.at ≤ cells.old.at + 2 }
 {
-    if conic_angle_bound_active(net.branch(e)) {
-        put_bounds(cells, net.layout.angub_row(e), net.layout.anglb_row(e));
-    }
+    let on = conic_angle_bound_active(net.branch(e));
+    put_bounds(cells, on, net.layout.angub_row(e), net.layout.anglb_row(e));
 }
 
 // Kept: the likeness with put_wr is its four steps, of which all but the series differ.

@@ -1,6 +1,6 @@
 // The generator columns of A, and the cost columns.
 ghost use Rattle.std.specs.Prelude.{◌≡◌, ◌+◌, ◌*◌, ◌≤◌, ◌<◌};
-ghost use Rattle.lists.specs.UpTo.{each, listed, sum};
+ghost use Rattle.lists.specs.UpTo.{each, listed, when, sum};
 ghost use Rattle.records.specs.Fields.{capability_of};
 ghost use Rattle.matrix.specs.Columns.{pg_cells, qg_cells};
 ghost use Rattle.cells.specs.Puts.{PutsCells, PutsColumns};
@@ -14,14 +14,16 @@ use cells::Cells;
 use numbering::Network;
 use records::Record;
 
-// The rows of an upper and a lower bound.
-pub fn put_bounds(cells: &mut Cells<'_>, upper: u32, lower: u32)
+// The rows of an upper and a lower bound, where they are active.
+pub fn put_bounds(cells: &mut Cells<'_>, on: bool, upper: u32, lower: u32)
     requires { cells.old.at < 2000000 }
-    ensures puts { PutsCells (pair upper lower) cells.old cells.new }
+    ensures puts { PutsCells (when on (pair upper lower)) cells.old cells.new }
     ensures upper_bound { cells.new.at ≤ cells.old.at + 2 }
 {
-    cells.put(upper, 1.0);
-    cells.put(lower, -1.0);
+    if on {
+        cells.put(upper, 1.0);
+        cells.put(lower, -1.0);
+    }
 }
 
 // A generator's balance row, and the rows of its bounds where they are active.
@@ -31,9 +33,7 @@ fn put_head(cells: &mut Cells<'_>, r: Record<'_>, balance: u32, upper: u32, lowe
     ensures upper_bound { cells.new.at ≤ cells.old.at + 3 }
 {
     cells.put(balance, 1.0);
-    if r.generator_capability_active() {
-        put_bounds(cells, upper, lower);
-    }
+    put_bounds(cells, r.generator_capability_active(), upper, lower);
 }
 
 // The slopes of count segments, of which the first is segment seg of all.

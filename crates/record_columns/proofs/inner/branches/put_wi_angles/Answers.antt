@@ -1,22 +1,16 @@
-use Rattle.std.proofs.Common.{refl, sym, ◌∙◌}
+-- What put_bounds says, at the branch's flag and the numbers of its angle rows.
+use Rattle.std.proofs.Common.{refl, ◌∙◌}
 use Rattle.numbering.specs.declared.RowName.TheVariants.{Angub, Anglb}
 use Rattle.numbering.proofs.Laid.{laid-row}
-use Rattle.cells.proofs.Puts.{none}
 use Rattle.record_columns.specs.Writers.{pair, wi_angles}
 use Rattle.record_columns.proofs.inner.branches.put_wi_angles.Goals as goal
 
-pub returns-then-conic_angle_bound_active-clause-puts : goal.returns-then-conic_angle_bound_active-clause-puts
+pub returns-clause-puts : goal.returns-clause-puts
 unfolding pair wi_angles
-returns-then-conic_angle_bound_active-clause-puts c =
+returns-clause-puts c =
     let net = c.args.net.now in
     let e = c.args.e in
     let row = laid-row net.layout net.bytes.now net.laid in
     let r = c.branch-net.ensures in
-    let both = rw (c.angub_row.ensures ∙ row (Angub e) refl, c.anglb_row.ensures ∙ row (Anglb e) refl) at c.put_bounds.ensures.puts in
-    rw (sym (rw (r.place, r.bytes) at c.conic_angle_bound_active.ensures) ∙ c.if-conic_angle_bound_active.true) both
-
-pub returns-else-conic_angle_bound_active-clause-puts : goal.returns-else-conic_angle_bound_active-clause-puts
-unfolding wi_angles
-returns-else-conic_angle_bound_active-clause-puts c =
-    let r = c.branch-net.ensures in
-    rw (sym (rw (r.place, r.bytes) at c.conic_angle_bound_active.ensures) ∙ c.if-conic_angle_bound_active.false) none
+    let on = rw (r.place, r.bytes) at c.conic_angle_bound_active-on.ensures in
+    rw (on, c.angub_row.ensures ∙ row (Angub e) refl, c.anglb_row.ensures ∙ row (Anglb e) refl) at c.put_bounds.ensures.puts
