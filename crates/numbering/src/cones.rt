@@ -11,17 +11,29 @@ use crate::SocWrLayout;
 use records::Case;
 use refusals::{Refusal, room_for};
 
+// The length of cone i, of those behind the zero and the nonnegative cone.
+fn second_order_length(l: SocWrLayout, i: usize) -> u32
+    requires { (2 ≤ i) × (i < cone_count l) }
+    ensures { result ≡ get_or (cones_of l) i 0 }
+{
+    if i - 2 < l.m {
+        return 4;
+    }
+    3
+}
+
 // Kept: a layout in range is asked alone, as at the layout's methods: `SocWrLayout::cones` has no records for a network.
 // All lengths, at the front of out.
+// Kept: a loop with a test, no fill of the fours and of the threes: an edit of the test shows where the threes begin.
 fn cones_into(l: SocWrLayout, out: &mut [u32])
     requires { (InRange l) × (cone_count l ≤ length out.old) }
     ensures { out.new ≡ overlay (cones_of l) out.old }
 {
-    let threes = 2 + l.m;
     out[0] = l.zero_rows();
     out[1] = l.nonnegative_rows();
-    out[2..threes].fill(4);
-    out[threes..threes + 2 * l.t].fill(3);
+    for i in 2..2 + l.m + 2 * l.t {
+        out[i] = second_order_length(l, i);
+    }
 }
 
 // The lengths of a layout in range, where there is room for them.

@@ -1,10 +1,12 @@
 -- What the entries answer. Assumes nothing.
-use Rattle.std.proofs.Common.{T, subst, false, is_err, refl, IsErrAnd, Err, Ok, ℕ, ◌≤◌, ◌≡◌, sym, ap, ◌∙◌, List, le-leb, length, Float}
+use Rattle.std.proofs.Common.{T, subst, false, is_err, refl, IsErrAnd, Err, Ok, ℕ, ◌≤◌, ◌<◌, ◌≡◌, sym, ap, ◌∙◌, List, le-leb, length, Float}
+use Rattle.std.proofs.lemmas.Bool.{lt-leb}
 use Rattle.lists.specs.UpTo.{overlay}
 use Rattle.lists.specs.Entries.{Cell}
 use Rattle.lists.specs.Compressed.{joined, starts_from}
-use Rattle.refusals.specs.Refusals.{Checked, Written, passed, ◌or_else◌, room_for}
+use Rattle.refusals.specs.Refusals.{Checked, Written, passed, ◌or_else◌, refuse_unless, room_for}
 use Rattle.refusals.specs.declared.Refusal.{Refusal}
+use Rattle.refusals.specs.declared.Refusal.TheVariants.{OutputTooShort}
 use Rattle.records.specs.Check.{check_of}
 use Rattle.refusals.proofs.Laws.{has_room, or_else_accepted, or_else_refused, or_else_passed, left-written, left_alone, answer-held, answer-refused, leaves, held}
 use Rattle.records.specs.Network.{network_of}
@@ -19,6 +21,10 @@ use Rattle.cells.proofs.Ends.{whole-count, whole-starts, whole-rows, whole-vals}
 -- ---- rooms
 room-held : {need have : ℕ} → need ≤ have → room_for need have ≡ passed
 room-held {need} {have} h = held _ _ (le-leb need have h)
+
+pub room-short : {need have : ℕ} → have < need → room_for need have ≡ Err (OutputTooShort need)
+unfolding refuse_unless
+room-short {need} {have} h = rw (lt-leb need have h)
 
 pub entries-fit : {need there there' : ℕ} {r : Checked} → r ≡ room_for need there or_else room_for need there' → r ≡ passed → (need ≤ there) × (need ≤ there')
 entries-fit q h = let p = or_else_accepted _ _ (sym q ∙ h) in (has_room _ _ p.0, has_room _ _ p.1)

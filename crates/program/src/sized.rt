@@ -19,12 +19,14 @@ pub(crate) fn put_b(b: &mut [f64], net: &Network<'_>) -> Result<u64, Refusal>
     ensures { FloatsWritten passed (right_side (grid net.now)) b.old b.new result }
 {
     let need = net.layout.row_count() as usize;
-    room_for(need, b.len())?;
+    // Kept: a test, no `room_for`: that just the length needed is taken is shown by an edit of the test.
+    if b.len() < need {
+        return Err(Refusal::OutputTooShort(need as u64));
+    }
     fill_b(b, net);
     Ok(need as u64)
 }
 
-// Kept: the likeness with put_b is a test and a call; joint, the length and the writer would be parameters.
 pub(crate) fn put_q(q: &mut [f64], net: &Network<'_>) -> Result<u64, Refusal>
     ensures { FloatsWritten passed (linear (grid net.now)) q.old q.new result }
 {
