@@ -1,5 +1,5 @@
--- Where the segments' records lie: those of a generator follow those of the generators before it, and all lie within the slice, since the
--- counts of accepted records add up to S. Assumes nothing.
+-- Where the segments' records lie: those of a generator follow those of the generators before it, and all are among the S of the network,
+-- since the counts of accepted records add up to S. Assumes nothing.
 use Rattle.std.proofs.Common.{ℕ, ◌+◌, ◌≤◌, ◌<◌, ◌≡◌, List, arith}
 use Rattle.lists.proofs.Sums.{sum_mono, sum-next}
 use Rattle.records.specs.Fields.{segments_of}
