@@ -3,12 +3,13 @@
 // Kept: a function for one column and one for two: joint over their number, each turn would have a loop over an array of sums.
 // Kept: grid, x and terms, with the dim that two of them share: a struct would be made for each call of weigh_all and copied out by each pass.
 ghost use Rattle.std.specs.Prelude.{◌≡◌, ◌+◌, ◌*◌, ◌≤◌, ◌<◌, length};
+ghost use Rattle.sparse.specs.Sparse.{item_of};
 ghost use Rattle.sparse.specs.Lent.{cells_of};
 ghost use Rattle.weighing.specs.Weighing.{weighed};
 ghost use Rattle.weighing.specs.Passes.{place, Below, Spread, Passed, weighed_by};
 
 use crate::Grid;
-use sparse::{Dense, Segment, Terms};
+use sparse::{Dense, Segment, Selector, Terms};
 
 #[derive(Clone, Copy)]
 pub(crate) struct Two {
@@ -16,32 +17,42 @@ pub(crate) struct Two {
     pub(crate) b: f64,
 }
 
-// The terms by the column that begins at base, added to a.
-fn weigh_one(x: &[f64], base: usize, segment: &Segment<'_>, a: f64) -> f64
-    requires { base + segment.now.dim ≤ length x.now }
-    ensures { result ≡ weighed x.now base (cells_of segment.now) a }
+// The terms of segment s by the first column of x, added to a.
+// Kept: by index in the whole lists: over a segment's slices, zipped or enumerated, segments of one row or none took up to 1.7 times the time (docs/LOOK-BACK.md).
+fn weigh_one(x: &[f64], terms: &Terms<'_>, s: usize, a: f64) -> f64
+    requires { (s < terms.now.segments) × (terms.now.dim ≤ length x.now) }
+    ensures { result ≡ weighed x.now 0 (item_of terms.now.selector.starts.now terms.now.selector.rows.now terms.now.selector.weights.now s) a }
 {
+    let Selector {
+        starts,
+        rows,
+        weights,
+    } = terms.selector;
+    let first = starts[s] as usize;
+    let count = starts[s + 1] as usize - first;
     let mut sum = a;
-    for (row, weight) in segment.rows.iter().zip(segment.weights) {
-        let at = base + *row as usize;
-        sum += *weight * x[at];
+    for k in 0..count {
+        let at = rows[first + k] as usize;
+        sum += weights[first + k] * x[at];
     }
     sum
 }
 
-// The same by the columns that begin at base and at other.
-fn weigh_two(x: &[f64], base: usize, other: usize, segment: &Segment<'_>, start: Two) -> Two
-    requires { (base + segment.now.dim ≤ length x.now) × (other + segment.now.dim ≤ length x.now) }
-    ensures a_value { result.a ≡ weighed x.now base (cells_of segment.now) start.a }
-    ensures b_value { result.b ≡ weighed x.now other (cells_of segment.now) start.b }
+// The terms of a segment by the first two columns of x, added to start.
+// Kept: a weight by its row's place: zipped, segments of one row took up to 1.4 times the time (docs/LOOK-BACK.md).
+fn weigh_two(x: &[f64], segment: &Segment<'_>, start: Two) -> Two
+    requires { segment.now.dim + segment.now.dim ≤ length x.now }
+    ensures a_value { result.a ≡ weighed x.now 0 (cells_of segment.now) start.a }
+    ensures b_value { result.b ≡ weighed x.now segment.now.dim (cells_of segment.now) start.b }
 {
     let mut a = start.a;
     let mut b = start.b;
-    for (row, weight) in segment.rows.iter().zip(segment.weights) {
-        let here = base + *row as usize;
-        let there = other + *row as usize;
-        a += *weight * x[here];
-        b += *weight * x[there];
+    for (k, row) in segment.rows.iter().enumerate() {
+        let weight = segment.weights[k];
+        let here = *row as usize;
+        let there = segment.dim + here;
+        a += weight * x[here];
+        b += weight * x[there];
     }
     Two { a, b }
 }
@@ -54,10 +65,10 @@ fn pass_one(out: &mut [f64], grid: &Grid, x: &Dense<'_>, d: usize, terms: &Terms
     ensures { Passed (place (grid.now.at + d * grid.now.dense) 0 grid.now.across) (Below 1 terms.now.segments) (weighed_by x.now (d * x.now.dim) terms.now) out.old out.new }
 {
     let (x, terms, across) = (*x, *terms, grid.across);
-    let base = d * x.dim;
+    let column = &x.values[d * x.dim..];
     let mut p = grid.at + d * grid.dense;
     for s in 0..terms.segments {
-        out[p] = weigh_one(x.values, base, &terms.segment(s), out[p]);
+        out[p] = weigh_one(column, &terms, s, out[p]);
         p += across;
     }
 }
@@ -70,8 +81,7 @@ fn pass_two(out: &mut [f64], grid: &Grid, x: &Dense<'_>, d: usize, terms: &Terms
 {
     // Copied, so that a write to out makes the loop read none of them again.
     let (x, terms, across) = (*x, *terms, grid.across);
-    let base = d * x.dim;
-    let other = base + x.dim;
+    let columns = &x.values[d * x.dim..];
     let mut p = grid.at + d * grid.dense;
     let mut q = p + grid.dense;
     for s in 0..terms.segments {
@@ -79,7 +89,7 @@ fn pass_two(out: &mut [f64], grid: &Grid, x: &Dense<'_>, d: usize, terms: &Terms
             a: out[p],
             b: out[q],
         };
-        let two = weigh_two(x.values, base, other, &terms.segment(s), start);
+        let two = weigh_two(columns, &terms.segment(s), start);
         out[p] = two.a;
         out[q] = two.b;
         p += across;

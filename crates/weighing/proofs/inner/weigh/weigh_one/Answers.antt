@@ -1,45 +1,27 @@
-use Rattle.std.proofs.Common.{ℕ, get_or, arith, rules}
+-- The term at first + k is the next one of the segment; behind the last term the terms passed are all of the segment.
+use Rattle.std.proofs.Common.{ℕ, ◌+◌, ◌-◌, ◌≡◌, get_or, arith}
 use Rattle.std.specs.Float.{nan}
-use Rattle.std.proofs.lemmas.List.{length_push}
 use Rattle.lists.specs.Entries.{cell}
 use Rattle.lists.proofs.Steps.{over_none, over-next}
-use Rattle.sparse.specs.Sparse.{cells}
-use Rattle.sparse.proofs.Pairs.{pair_at, pairs-all}
+use Rattle.sparse.specs.Sparse.{start_of, segment, item_of}
 use Rattle.weighing.specs.Weighing.{weigh, weighed}
+use Rattle.weighing.proofs.Rows.{weigh-first}
 use Rattle.weighing.proofs.inner.weigh.weigh_one.Goals as goal
 
-pub loop-row-init : goal.loop-row-init
-loop-row-init c = over_none _ _ _
+pub loop-k-init : goal.loop-k-init
+loop-k-init c = over_none _ _ _
 
-pub bounds-x-at : goal.bounds-x-at
-bounds-x-at c =
-    let a = c.args in
-    let t = c.args.segment.now in
-    let xs = c.loop-row.yielded in
-    let p =
-    pair_at t.rows.now t.weights.now t.paired xs c.into_iter-row-iterator.result c.loop-row.row-iterator c.next.new.self _
-    (search rules) (search rules) c.loop-row.yielded_by (c.in-Some.row, c.in-Some.weight) c.in-Some.is c.next.ensures.steps in
-    omega (arith, p.row-is, t.below _ p.within)
-
-pub loop-row-preserved : goal.loop-row-preserved
-unfolding weigh
-loop-row-preserved c =
-    let a = c.args in
-    let t = c.args.segment.now in
-    let xs = c.loop-row.yielded in
-    let p =
-    pair_at t.rows.now t.weights.now t.paired xs c.into_iter-row-iterator.result c.loop-row.row-iterator c.next.new.self _
-    (search rules) (search rules) c.loop-row.yielded_by (c.in-Some.row, c.in-Some.weight) c.in-Some.is c.next.ensures.steps in
-    let pair = λ (j : ℕ). cell (get_or t.rows.now j 0) (get_or t.weights.now j nan) in
-    rw length_push (over-next (weigh a.x.now a.base) pair _ _ _ _ c.loop-row.invariant (rw (p.row-is, p.weight-is)))
+pub loop-k-preserved : goal.loop-k-preserved
+loop-k-preserved c =
+    let x = c.args.x.now in
+    let lists = c.args.terms.now.selector in
+    let place = λ (j : ℕ). start_of lists.starts.now c.args.s + j in
+    let term = λ (j : ℕ). cell (get_or lists.rows.now (place j) 0) (get_or lists.weights.now (place j) nan) in
+    over-next (weigh x 0) term _ _ _ _ c.loop-k.invariant (weigh-first x (get_or lists.rows.now (place c.loop-k.k) 0) _ _)
 
 pub returns : goal.returns
-unfolding weighed cells
+unfolding weighed item_of segment
 returns c =
-    let a = c.args in
-    let t = c.args.segment.now in
-    let xs = c.loop-row.yielded in
-    let e =
-    pairs-all t.rows.now t.weights.now t.paired xs c.into_iter-row-iterator.result c.loop-row.row-iterator c.next.new.self _
-    (search rules) (search rules) c.loop-row.yielded_by c.in-None.is c.next.ensures.steps in
-    rw e at c.loop-row.invariant
+    let starts = c.args.terms.now.selector.starts.now in
+    let e : c.loop-k.k ≡ start_of starts (c.args.s + 1) - start_of starts c.args.s = omega arith in
+    rw e at c.loop-k.invariant
