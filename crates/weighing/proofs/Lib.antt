@@ -1,5 +1,6 @@
 pub mod Cells
 pub mod Rows
+pub mod Columns
 pub mod Gathered
 pub mod Filled
 pub mod Walked

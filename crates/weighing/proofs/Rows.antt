@@ -1,13 +1,9 @@
--- A pass goes on by one segment, of one dense column or of two, and by more dense columns; terms by a column cut out of the matrix. Assumes nothing.
-use Rattle.std.proofs.Common.{ℕ, ◌+◌, ◌*◌, ◌-◌, ◌≤◌, ◌<◌, ◌≡◌, refl, sym, ap, ◌∙◌, inl, inr, ⊎_elim, List, zero-add, zero-mul, one-mul, add-mul, add_assoc, arith, length, take, drop, length-drop, get_or, set, get_or-set_other, Float}
-use Rattle.std.specs.Float.{binary64, nan}
-use Rattle.std.specs.Float.Ieee.{add, mul}
-use Rattle.std.proofs.lemmas.List.{take_all, get_or-drop}
+-- A pass goes on by one segment, of one dense column or of two, and by more dense columns. Assumes nothing.
+use Rattle.std.proofs.Common.{ℕ, ◌+◌, ◌*◌, ◌-◌, ◌≤◌, ◌<◌, ◌≡◌, sym, ap, ◌∙◌, inl, inr, ⊎_elim, List, zero-mul, one-mul, add-mul, arith, length, get_or, set, get_or-set_other, Float}
+use Rattle.std.specs.Float.{nan}
 use native.Mathlib.Decide.{ℕ_discrete, dec_lt}
-use Rattle.lists.specs.Entries.{Cell, cell}
-use Rattle.lists.specs.Steps.{through}
 use Rattle.sparse.specs.Sparse.{item_of}
-use Rattle.weighing.specs.Weighing.{weigh, weighed}
+use Rattle.weighing.specs.Weighing.{weighed}
 use Rattle.weighing.specs.Passes.{place, Below, Spread, Passed, weighed_at}
 use Rattle.weighing.proofs.Cells.{passed-one, passed-joined, passed-same}
 
@@ -130,20 +126,6 @@ passed-alone at dense across segments a =
       done = λ d s b. rw (← alone at dense across d s b.0) (a.done d s b);
       kept = λ i h. a.kept i (λ d s b e. h d s b (e ∙ alone at dense across d s b.0));
     }
-
--- one term by the first column of a matrix
-pub weigh-first : (x : List Float) (row : ℕ) (w a : Float) → add binary64 a (mul binary64 w (get_or x row nan)) ≡ weigh x 0 (cell row w) a
-unfolding weigh
-weigh-first x row w a = rw (zero-add row) refl
-
--- terms by what is left of a matrix from base on
-pub weighed-behind : (x : List Float) (base b : ℕ) (ts : List Cell) (a : Float) → weighed (take (length x - base) (drop base x)) b ts a ≡ weighed x (base + b) ts a
-unfolding weighed weigh
-weighed-behind x base b ts a =
-    let tail : take (length x - base) (drop base x) ≡ drop base x = take_all (length x - base) (drop base x) (omega (arith, length-drop base x)) in
-    rw tail
-    (ap (λ (f : Cell → Float → Float). through f ts a)
-    (λ i t v. add binary64 v (mul binary64 t.val ((get_or-drop base x (b + t.row) nan ∙ ap (λ (n : ℕ). get_or x n nan) (sym (add_assoc base b t.row))) i))))
 
 -- the dense columns from k on begin k * dim further
 pub weighed-from : (x : List Float) (base dim k : ℕ) (starts rows : List ℕ) (weights : List Float) → base ≡ k * dim → (d s : ℕ) (v : Float)

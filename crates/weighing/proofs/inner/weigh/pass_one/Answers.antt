@@ -1,7 +1,8 @@
 -- Segment s is weighed by the column, and stands at its place; what is left of x begins with the column.
 use Rattle.std.proofs.Common.{◌*◌, add-zero, arith}
 use Rattle.sparse.proofs.Places.{next-column}
-use Rattle.weighing.proofs.Rows.{first-inside, one-row, first_base, weighed-behind}
+use Rattle.weighing.proofs.Rows.{first-inside, one-row, first_base}
+use Rattle.weighing.proofs.Columns.{weighed-behind}
 use Rattle.weighing.proofs.inner.weigh.pass_one.Goals as goal
 
 pub bounds-out-p : goal.bounds-out-p

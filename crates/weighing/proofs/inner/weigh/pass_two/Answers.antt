@@ -1,7 +1,8 @@
 -- Segment s is weighed by both columns, and stands at its two places; what is left of x begins with the columns.
 use Rattle.std.proofs.Common.{◌*◌, add-zero, arith, length-set}
 use Rattle.sparse.proofs.Places.{next-column}
-use Rattle.weighing.proofs.Rows.{first-inside, second-inside, two-rows, first_base, second_base, weighed-behind}
+use Rattle.weighing.proofs.Rows.{first-inside, second-inside, two-rows, first_base, second_base}
+use Rattle.weighing.proofs.Columns.{weighed-behind}
 use Rattle.weighing.proofs.inner.weigh.pass_two.Goals as goal
 
 pub offset_bounds-out-p-in-loop-s : goal.offset_bounds-out-p-in-loop-s

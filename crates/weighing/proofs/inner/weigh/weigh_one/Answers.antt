@@ -5,7 +5,7 @@ use Rattle.lists.specs.Entries.{cell}
 use Rattle.lists.proofs.Steps.{over_none, over-next}
 use Rattle.sparse.specs.Sparse.{start_of, segment, item_of}
 use Rattle.weighing.specs.Weighing.{weigh, weighed}
-use Rattle.weighing.proofs.Rows.{weigh-first}
+use Rattle.weighing.proofs.Columns.{weigh-at}
 use Rattle.weighing.proofs.inner.weigh.weigh_one.Goals as goal
 
 pub loop-k-init : goal.loop-k-init
@@ -17,7 +17,8 @@ loop-k-preserved c =
     let lists = c.args.terms.now.selector in
     let place = λ (j : ℕ). start_of lists.starts.now c.args.s + j in
     let term = λ (j : ℕ). cell (get_or lists.rows.now (place j) 0) (get_or lists.weights.now (place j) nan) in
-    over-next (weigh x 0) term _ _ _ _ c.loop-k.invariant (weigh-first x (get_or lists.rows.now (place c.loop-k.k) 0) _ _)
+    let row = get_or lists.rows.now (place c.loop-k.k) 0 in
+    over-next (weigh x 0) term _ _ _ _ c.loop-k.invariant (weigh-at x 0 row row _ _ (omega arith))
 
 pub returns : goal.returns
 unfolding weighed item_of segment
